@@ -1,0 +1,8 @@
+use native.Mathlib.Omega.{arith}
+use Rattle.std.proofs.shelf.Ways.{tells}
+use Rattle.keycode.specs.Names.{keys}
+use Rattle.keycode.proofs.names.key_at.Needs as need
+
+pub returns-then-place-lt90 : need.returns-then-place-lt90
+unfolding keys
+returns-then-place-lt90 c = grind (arith, tells)

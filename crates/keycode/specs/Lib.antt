@@ -1,0 +1,2 @@
+pub mod Modifiers
+pub mod Names
