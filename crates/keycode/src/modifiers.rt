@@ -55,7 +55,8 @@ impl Modifiers {
 
     // What a terminal adds to 1 for the modifiers that a sequence's parameter names.
     pub fn encode_xterm(self) -> u8
-        ensures { λ r. ⌜ r ≡ xtermSum (self .0) ⌝ }
+        ensures value { λ r. ⌜ r ≡ xtermSum (self .0) ⌝ }
+        ensures most { λ r. ⌜ r ≤ 7 ⌝ }
     {
         weight(self.contains(Modifiers::SHIFT), 1)
             + weight(self.contains(Modifiers::ALT), 2)

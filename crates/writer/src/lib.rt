@@ -5,3 +5,4 @@ mod write;
 pub use buf::Buf;
 pub use write::decimal;
 pub use write::hex;
+pub use write::utf8;

@@ -1,10 +1,10 @@
 // Bytes, text and numbers, written behind what a buffer holds.
 ghost use mathlib.Core.Path.{_≡_};
 ghost use mathlib.Core.List.{[], _∷_, _++_};
-ghost use Prim.Native.Nat.{ℕ, _+_, _*_, _≤_, _<_};
+ghost use Prim.Native.Nat.{ℕ, _+_, _*_, _%_, _≤_, _<_};
 ghost use lib.ListN.{length};
 ghost use Rattle.writer.specs.Held.{held};
-ghost use Rattle.writer.specs.Numbers.{dec, hexDigit, hexOf};
+ghost use Rattle.writer.specs.Numbers.{dec, hexDigit, hexOf, utf8Of};
 use crate::buf::Buf;
 
 impl Buf {
@@ -57,6 +57,37 @@ pub fn decimal(out: &mut Buf, n: u32)
     }
     decimal(out, n / 10);
     out.push(b'0' + (n % 10) as u8);
+}
+
+// A character in UTF-8.
+pub fn utf8(out: &mut Buf, c: u32)
+    requires room { ⌜ now out .len + 4 ≤ 64 ⌝ }
+    requires plane { ⌜ c < 1114112 ⌝ }
+    ensures bytes { λ _. ⌜ held (now (out .exit)) ≡ held (now (out .entry)) ++ utf8Of c ⌝ }
+    ensures len { λ _. ⌜ now (out .exit) .len ≤ now (out .entry) .len + 4 ⌝ }
+{
+    if c < 0x80 {
+        out.push(c as u8);
+    } else if c < 0x800 {
+        out.push(0xc0 + (c / 64) as u8);
+        out.push(trailing(c));
+    } else if c < 0x10000 {
+        out.push(0xe0 + (c / 4096) as u8);
+        out.push(trailing(c / 64));
+        out.push(trailing(c));
+    } else {
+        out.push(0xf0 + (c / 262144) as u8);
+        out.push(trailing(c / 4096));
+        out.push(trailing(c / 64));
+        out.push(trailing(c));
+    }
+}
+
+// The byte that carries a number's lowest six bits.
+fn trailing(c: u32) -> u8
+    ensures { λ r. ⌜ r ≡ 128 + c % 64 ⌝ }
+{
+    0x80 + (c % 64) as u8
 }
 
 // An uppercase hexadecimal digit.

@@ -4,4 +4,4 @@ use Rattle.keycode.proofs.modifiers.Modifiers.encode_xterm.Needs as need
 
 pub returns : need.returns
 unfolding xtermSum
-returns c = grind arith
+returns c = record { value = grind arith; most = omega arith }

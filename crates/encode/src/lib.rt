@@ -1,0 +1,6 @@
+mod control;
+mod form;
+mod keys;
+mod sequences;
+pub use control::ctrl_mapping;
+pub use form::EncodeFault;

@@ -1,0 +1,4 @@
+pub mod Fields
+pub mod Mods
+pub mod Numbers
+pub mod Requests
