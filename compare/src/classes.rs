@@ -48,7 +48,7 @@ pub const CLASSES: [Class; 7] = [
 /// What the port must answer to a case with so much room for the output.
 pub struct Expected {
     /// `None`: what the original said.
-    pub instead: Option<Answer>,
+    instead: Option<Answer>,
     /// The places in `CLASSES` of the classes that the case belongs to.
     pub classes: Vec<usize>,
 }

@@ -7,15 +7,19 @@ use lib.Dec.{eqb}
 use Rattle.std.specs.declared.option.Option.{Option}
 use Rattle.std.specs.declared.option.Option.the-variants.{None, Some}
 
--- a byte before the first of the fields
-abbrev pub before : ℕ → List (List ℕ) → List (List ℕ)
-before b [] = (b ∷ []) ∷ []
-before b (field ∷ fields) = (b ∷ field) ∷ fields
+-- the bytes before the first tab, byte 9, or all
+unfoldable pub firstField : List ℕ → List ℕ
+firstField [] = []
+firstField (b ∷ bs) = cond (eqb b 9) [] (b ∷ firstField bs)
 
--- a text parted at its tabs, byte 9: always one field more than tabs
-unfoldable pub parted : List ℕ → List (List ℕ)
-parted [] = [] ∷ []
-parted (b ∷ bs) = cond (eqb b 9) ([] ∷ parted bs) (before b (parted bs))
+-- the fields behind the tabs, one for each tab
+unfoldable pub moreFields : List ℕ → List (List ℕ)
+moreFields [] = []
+moreFields (b ∷ bs) = cond (eqb b 9) (firstField bs ∷ moreFields bs) (moreFields bs)
+
+-- a text parted at its tabs
+abbrev pub parted : List ℕ → List (List ℕ)
+parted text = firstField text ∷ moreFields text
 
 -- the fields of the text behind a field, if a tab stands there
 abbrev pub rest : Option (RefT (List ℕ)) → List (List ℕ)

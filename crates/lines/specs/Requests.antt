@@ -5,11 +5,11 @@ use Prim.Native.Nat.{ℕ}
 use lib.Chars.{codes}
 use lib.Dec.{leb}
 use lib.ListN.{length}
+use Rattle.std.specs.Options.{mapped, okOr}
 use Rattle.std.specs.shelf.Text.{sameBytes}
 use Rattle.std.specs.declared.option.Option.{Option}
 use Rattle.std.specs.declared.option.Option.the-variants.{None, Some}
 use Rattle.std.specs.declared.result.Result.{Result}
-use Rattle.std.specs.declared.result.Result.the-variants.{Ok, Err}
 use Rattle.keycode.specs.Names.{keyNamed}
 use Rattle.keycode.specs.declared.key.KeyCode.{KeyCode}
 use Rattle.keycode.specs.declared.key.KeyCode.the-variants.{Char, Function}
@@ -26,10 +26,6 @@ use Rattle.lines.specs.declared.request.Request.the-variants.{Press}
 -- the number by which a fault is told
 abbrev pub number : LineFault → ℕ
 number OtherForm = 11
-
-abbrev pub mapped : {A B : Type 0} → (A → B) → Option A → Option B
-mapped f None = None
-mapped f (Some x) = Some (f x)
 
 -- a key by its name and its number: of `Char` in base 16, of `Function` in base 10, and `-` where a key holds none
 abbrev pub keyed : List ℕ → List ℕ → Option KeyCode
@@ -56,10 +52,6 @@ abbrev pub formOf : List (List ℕ) → Option Request
 formOf [] = None
 formOf (verb ∷ fields) = cond (sameBytes verb (codes "press")) (mapped Press (pressOf fields)) None
 
-abbrev pub orFault : Option Request → Result Request LineFault
-orFault None = Err OtherForm
-orFault (Some request) = Ok request
-
 -- what a line of at most 8,210 bytes asks for; any other is refused
 abbrev pub requestOf : List ℕ → Result Request LineFault
-requestOf line = orFault (cond (leb (length line) 8210) (formOf (parted line)) None)
+requestOf line = okOr (cond (leb (length line) 8210) (formOf (parted line)) None) OtherForm

@@ -1,16 +1,26 @@
 // The fields of a line: what stands between its tabs.
 ghost use mathlib.Core.Path.{_≡_};
 ghost use mathlib.Core.List.{_∷_};
+ghost use Rattle.std.specs.shelf.Text.{sameBytes};
 ghost use Rattle.lines.specs.Fields.{parted, rest};
+
+const TAB: u8 = b'\t';
 
 // The first field, and the text behind its tab, if it has one.
 pub fn cut(text: &[u8]) -> (&[u8], Option<&[u8]>)
     ensures { λ r. ⌜ parted (now (text .entry)) ≡ now (r .0) ∷ rest (r .1) ⌝ }
 {
     for (i, b) in text.iter().enumerate() {
-        if *b == b'\t' {
+        if *b == TAB {
             return (&text[..i], Some(&text[i + 1..]));
         }
     }
     (text, None)
+}
+
+// Whether a field is the word.
+pub fn reads(field: &[u8], word: &str) -> bool
+    ensures { λ r. ⌜ r ≡ sameBytes (now (field .entry)) (now (word .entry)) ⌝ }
+{
+    field == word.as_bytes()
 }

@@ -44,11 +44,14 @@ fn number(text: &[u8], base: u8, most: u32) -> Option<u32>
     Some(value as u32)
 }
 
+// The most digits of a number in base 16.
+const HEX_DIGITS: usize = 8;
+
 // The number that the text writes in base 16, in at most eight digits.
 pub fn hex_number(text: &[u8]) -> Option<u32>
     ensures { λ r. ⌜ r ≡ hexNumber (now (text .entry)) ⌝ }
 {
-    if text.len() > 8 {
+    if text.len() > HEX_DIGITS {
         return None;
     }
     number(text, 16, u32::MAX)

@@ -3,6 +3,7 @@ ghost use mathlib.Core.Path.{_≡_};
 ghost use Rattle.lines.specs.Fields.{parted};
 ghost use Rattle.lines.specs.Requests.{number, keyed, pressOf, formOf, requestOf};
 use crate::fields::cut;
+use crate::fields::reads;
 use crate::mods::mods_of;
 use crate::numbers::dec_number;
 use crate::numbers::hex_number;
@@ -30,13 +31,14 @@ impl LineFault {
 fn keyed(name: &[u8], digits: &[u8]) -> Option<KeyCode>
     ensures { λ r. ⌜ r ≡ keyed (now (name .entry)) (now (digits .entry)) ⌝ }
 {
-    match name {
-        b"Char" => Some(KeyCode::Char(hex_number(digits)?)),
-        b"Function" => Some(KeyCode::Function(dec_number(digits)?)),
-        _ => match digits {
-            b"-" => key_named(name),
-            _ => None,
-        },
+    if reads(name, "Char") {
+        Some(KeyCode::Char(hex_number(digits)?))
+    } else if reads(name, "Function") {
+        Some(KeyCode::Function(dec_number(digits)?))
+    } else if reads(digits, "-") {
+        key_named(name)
+    } else {
+        None
     }
 }
 
@@ -58,9 +60,10 @@ fn form(line: &[u8]) -> Option<Request>
     ensures { λ r. ⌜ r ≡ formOf (parted (now (line .entry))) ⌝ }
 {
     let (verb, rest) = cut(line);
-    match verb {
-        b"press" => Some(Request::Press(press(rest?)?)),
-        _ => None,
+    if reads(verb, "press") {
+        Some(Request::Press(press(rest?)?))
+    } else {
+        None
     }
 }
 

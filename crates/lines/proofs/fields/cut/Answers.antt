@@ -8,11 +8,11 @@ use Rattle.lines.specs.Fields.{parted}
 use Rattle.lines.proofs.Parted.{parted-at-tab, parted-without}
 use Rattle.lines.proofs.fields.cut.Needs as need
 
-pub returns-then-b-eq9 : need.returns-then-b-eq9
-returns-then-b-eq9 c =
+pub returns-then-b-eq-TAB : need.returns-then-b-eq-TAB
+returns-then-b-eq-TAB c =
   let text = c .args .text .now in
   let i = c .loop-i .i in
-  parted-at-tab text i (omega arith) (c .loop-i .inv) (c .if-b-eq9 .taken)
+  parted-at-tab text i (omega arith) (c .loop-i .inv) (c .if-b-eq-TAB .taken)
   ∙ ap (λ (behind : List ℕ). take i text ∷ parted behind) (sym (take-rest text (i + 1)))
 
 pub returns : need.returns

@@ -1,0 +1,15 @@
+use native.Mathlib.Omega.{arith}
+use Rattle.encode.specs.Typed.{otherKey}
+use Rattle.encode.proofs.character.csi_u_encode.Needs as need
+
+pub returns-in-Unicode : need.returns-in-Unicode
+unfolding otherKey
+returns-in-Unicode c = let e = c .in-Unicode .ensures tt in grind (arith, e)
+
+pub returns-in-Numbered : need.returns-in-Numbered
+unfolding otherKey
+returns-in-Numbered c = let e = c .in-Numbered .ensures tt in grind (arith, e)
+
+pub returns-in-Traditional : need.returns-in-Traditional
+unfolding otherKey
+returns-in-Traditional c = let e = c .in-Traditional .ensures tt in grind (arith, e)

@@ -1,0 +1,11 @@
+use native.Mathlib.Omega.{arith}
+use Rattle.encode.specs.Typed.{typed}
+use Rattle.encode.proofs.character.push_character.Needs as need
+
+pub returns-then-keeps-its-form : need.returns-then-keeps-its-form
+unfolding typed
+returns-then-keeps-its-form c = grind arith
+
+pub returns-else-keeps-its-form : need.returns-else-keeps-its-form
+unfolding typed
+returns-else-keeps-its-form c = grind arith

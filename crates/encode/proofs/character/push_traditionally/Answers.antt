@@ -1,0 +1,12 @@
+use mathlib.Core.List.{append-assoc}
+use native.Mathlib.Omega.{arith}
+use Rattle.encode.specs.Typed.{traditionally}
+use Rattle.encode.proofs.character.push_traditionally.Needs as need
+
+pub returns-in-Some : need.returns-in-Some
+unfolding traditionally
+returns-in-Some c = let e = c .in-Some .ensures tt in grind (arith, e, append-assoc)
+
+pub returns-in-None : need.returns-in-None
+unfolding traditionally
+returns-in-None c = let e = c .in-None .ensures tt in grind (arith, e, append-assoc)
