@@ -1,3 +1,4 @@
+pub mod Letters
 pub mod Numerals
 pub mod Parted
 pub mod Places

@@ -1,8 +1,9 @@
 // Sets of modifiers as a line writes them, both ways, by one table.
 ghost use mathlib.Core.Path.{_≡_};
 ghost use mathlib.Core.List.{[]};
-ghost use Prim.Native.Nat.{_<_, _%_};
+ghost use Prim.Native.Nat.{_<_};
 ghost use lib.ListN.{getD};
+ghost use Rattle.std.specs.declared.option.Option.the-variants.{Some};
 ghost use Rattle.keycode.specs.Modifiers.{unplaced};
 ghost use Rattle.lines.specs.Mods.{modsText, modsTexts, setOf};
 use keycode::Modifiers;
@@ -12,6 +13,7 @@ const TEXTS: [&'static str; 16] = [
     "-", "S", "A", "SA", "C", "SC", "AC", "SAC", "P", "SP", "AP", "SAP", "CP", "SCP", "ACP", "SACP",
 ];
 
+// The text of a set of the table.
 fn text_at(i: usize) -> &'static str
     requires { ⌜ i < 16 ⌝ }
     ensures { λ r. ⌜ now r ≡ getD modsTexts i [] ⌝ }
@@ -19,9 +21,10 @@ fn text_at(i: usize) -> &'static str
     TEXTS[i]
 }
 
-// The text of a set, less the members that name a side of the keyboard.
+// The text of a set, less the members that name a side of the keyboard; `mods_of` gives that set back.
 pub fn mods_text(modifiers: Modifiers) -> &'static str
-    ensures { λ r. ⌜ now r ≡ modsText (unplaced (modifiers .0)) ⌝ }
+    ensures value { λ r. ⌜ now r ≡ modsText (unplaced (modifiers .0)) ⌝ }
+    ensures back { λ r. ⌜ setOf (now r) ≡ Some (record { 0 = unplaced (modifiers .0) }) ⌝ }
 {
     text_at(modifiers.0 as usize % 16)
 }

@@ -1,12 +1,13 @@
-use mathlib.Core.Path.{_≡_, _∙_}
-use mathlib.Core.List.{[]}
-use Prim.Native.Nat.{_%_}
+use mathlib.Core.Path.{_≡_, _∙_, ap}
+use Prim.Native.Nat.{_%_, _<_}
 use native.Mathlib.Omega.{arith}
-use Rattle.std.proofs.shelf.Counted.{getD-map-counting}
-use Rattle.lines.specs.Mods.{modsText, modsTexts}
+use Rattle.lines.specs.Mods.{setOf}
+use Rattle.lines.proofs.Letters.{text-at, read-back}
 use Rattle.lines.proofs.mods.mods_text.Needs as need
 
 pub returns : need.returns
-unfolding modsTexts
 returns c =
-  c .text-at .ensures ∙ getD-map-counting modsText 0 16 (c .args .modifiers .0 % 16) (c .args .modifiers .0 % 16) [] (omega arith) (omega arith)
+  let m = c .args .modifiers .0 % 16 in
+  let lt : m < 16 = omega arith in
+  let e = c .text-at .ensures ∙ text-at m lt in
+  record { value = e; back = ap setOf e ∙ read-back m lt }

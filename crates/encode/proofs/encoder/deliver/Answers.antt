@@ -1,0 +1,13 @@
+use native.Mathlib.Nat.{sub-zero}
+use native.Mathlib.Omega.{arith}
+use Rattle.std.proofs.shelf.Ways.{tells}
+use Rattle.encode.specs.Encoding.{delivered}
+use Rattle.encode.proofs.encoder.deliver.Needs as need
+
+pub returns-then-n-out : need.returns-then-n-out
+unfolding delivered
+returns-then-n-out c = grind (arith, tells)
+
+pub returns : need.returns
+unfolding delivered
+returns c = grind (arith, tells, c .copy-from-slice .ensures .after, sub-zero)
