@@ -14,7 +14,7 @@ use Rattle.encode.specs.declared.form.Form.{Form}
 use Rattle.encode.specs.declared.form.Form.the-variants.{Typed, Cursor, Application, Keypad, Edit, Numbered, KeyBackspace, KeyEnter, KeyEscape, KeyTab, Silent}
 use Rattle.encode.specs.declared.form.EncodeFault.{EncodeFault}
 use Rattle.encode.specs.declared.form.EncodeFault.the-variants.{Modifiers, NoScalar, NoFunction, OutputShort}
-use Rattle.encode.specs.Characters.{scalar}
+use Rattle.character.specs.Characters.{scalar}
 use Rattle.encode.specs.Forms.{formOf}
 use Rattle.encode.specs.Pressed.{pressed}
 

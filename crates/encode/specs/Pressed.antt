@@ -8,11 +8,12 @@ use Rattle.keycode.specs.declared.key.KeyCode.{KeyCode}
 use Rattle.keycode.specs.declared.modes.KeyCodeEncodeModes.{KeyCodeEncodeModes}
 use Rattle.encode.specs.declared.form.Form.{Form}
 use Rattle.encode.specs.declared.form.Form.the-variants.{Typed, Cursor, Application, Keypad, Edit, Numbered, KeyBackspace, KeyEnter, KeyEscape, KeyTab, Silent}
-use Rattle.encode.specs.declared.level.Level.{Level}
-use Rattle.encode.specs.declared.level.Level.the-variants.{Off, One, Two, Other}
+use Rattle.character.specs.declared.level.Level.{Level}
+use Rattle.character.specs.declared.level.Level.the-variants.{Off, One, Two, Other}
 use Rattle.encode.specs.Forms.{formOf}
-use Rattle.encode.specs.Sequences.{csi, ss3, letterKey, numberKey, functionKey, escaped}
-use Rattle.encode.specs.Typed.{levelOf, otherKey, typed}
+use Rattle.encode.specs.Sequences.{ss3, letterKey, numberKey, functionKey}
+use Rattle.character.specs.Parts.{csi, escaped}
+use Rattle.character.specs.Typed.{levelOf, otherKey, typed}
 
 -- Backspace sends DEL; under CTRL it is the modified character 08, under SHIFT the modified character 7F
 unfoldable pub backspace : ℕ → KeyCodeEncodeModes → List ℕ

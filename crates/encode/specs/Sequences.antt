@@ -1,16 +1,13 @@
--- The sequences of a terminal's keys. XTerm Control Sequences: CSI is ESC [, SS3 is ESC O; "PC-Style Function Keys" has
--- the modifier parameter, "Alt and Meta Keys" the ESC before a character. Assumes nothing.
+-- The sequences of cursor, editing and function keys. XTerm Control Sequences, "PC-Style Function Keys" and "VT220-Style
+-- Function Keys"; SS3 is ESC O. Assumes nothing.
 use mathlib.Core.Bool.{Bool, cond, not}
 use mathlib.Core.List.{List, [], _∷_, _++_}
 use Prim.Native.Nat.{ℕ, _+_, _-_}
 use lib.Dec.{eqb, ltb}
 use lib.ListN.{getD}
-use Rattle.keycode.specs.Modifiers.{alt, xtermSum}
+use Rattle.keycode.specs.Modifiers.{xtermSum}
+use Rattle.character.specs.Parts.{csi, parameter}
 use Rattle.writer.specs.Numbers.{dec}
-
--- CSI and what follows it
-abbrev pub csi : List ℕ → List ℕ
-csi rest = 27 ∷ 91 ∷ rest
 
 -- SS3 and a final letter
 abbrev pub ss3 : ℕ → List ℕ
@@ -19,10 +16,6 @@ ss3 final = 27 ∷ 79 ∷ final ∷ []
 -- whether a sequence names a modifier: SHIFT, ALT or CTRL is held
 abbrev pub modified : ℕ → Bool
 modified m = not (eqb (xtermSum m) 0)
-
--- the modifier parameter, as digits
-abbrev pub parameter : ℕ → List ℕ
-parameter m = dec (1 + xtermSum m)
 
 -- CSI 1 ; n and a final letter
 abbrev pub lettered : ℕ → ℕ → List ℕ
@@ -50,7 +43,3 @@ functionKey n m =
     cond (ltb n 5)
     (cond (eqb m 0) (ss3 (79 + n)) (lettered (79 + n) m))
     (numberKey (getD functionCodes (n - 5) 0) m)
-
--- ALT sends ESC first
-abbrev pub escaped : ℕ → List ℕ
-escaped m = cond (alt m) (27 ∷ []) []

@@ -7,20 +7,20 @@ ghost use lib.ListN.{length};
 ghost use Rattle.std.specs.Options.{isSome};
 ghost use Rattle.encode.specs.Pressed.{backspace, ownCharacter, tabUnder, isOn, tab, byForm};
 ghost use Rattle.encode.specs.Encoding.{formFault, pressFault, sent, delivered, encoding};
-ghost use Rattle.encode.specs.Characters.{scalar};
+ghost use Rattle.character.specs.Characters.{scalar};
 ghost use Rattle.writer.specs.Held.{held};
-use crate::character::csi_u_encode;
-use crate::character::push_character;
 use crate::form::EncodeFault;
 use crate::form::Form;
 use crate::keys::form_of;
-use crate::level::Level;
-use crate::modes::level;
-use crate::sequences::ESC;
-use crate::sequences::push_escape_for_alt;
 use crate::sequences::push_function_key;
 use crate::sequences::push_letter_key;
 use crate::sequences::push_number_key;
+use character::ESC;
+use character::Level;
+use character::csi_u_encode;
+use character::level_of;
+use character::push_character;
+use character::push_escape_for_alt;
 use keycode::KeyCode;
 use keycode::KeyCodeEncodeModes;
 use keycode::Modifiers;
@@ -42,7 +42,13 @@ fn push_backspace(out: &mut Buf, mods: Modifiers, modes: KeyCodeEncodeModes)
 }
 
 // Enter and Escape: `text` as it is, or the character `c` modified.
-fn push_own_character(out: &mut Buf, c: u32, text: &[u8], mods: Modifiers, modes: KeyCodeEncodeModes)
+fn push_own_character(
+    out: &mut Buf,
+    c: u32,
+    text: &[u8],
+    mods: Modifiers,
+    modes: KeyCodeEncodeModes,
+)
     requires room { ⌜ now out .len + length (now text) ≤ 32 ⌝ }
     requires plane { ⌜ c < 1114112 ⌝ }
     ensures { λ _. ⌜ held (now (out .exit)) ≡ held (now (out .entry)) ++ ownCharacter c (now (text .entry)) (mods .0) modes ⌝ }
@@ -88,7 +94,7 @@ fn push_tab(out: &mut Buf, mods: Modifiers, modes: KeyCodeEncodeModes)
     requires { ⌜ now out .len ≤ 32 ⌝ }
     ensures { λ _. ⌜ held (now (out .exit)) ≡ held (now (out .entry)) ++ tab (mods .0) modes ⌝ }
 {
-    if !mods.is_empty() && is_on(level(modes.modify_other_keys)) {
+    if !mods.is_empty() && is_on(level_of(modes.modify_other_keys)) {
         csi_u_encode(out, 0x09, mods, modes);
     } else {
         push_escape_for_alt(out, mods);
@@ -111,13 +117,24 @@ fn push_press(out: &mut Buf, form: Form, mods: Modifiers, modes: KeyCodeEncodeMo
 {
     match form {
         Form::Typed(c) => push_character(out, c, mods, modes),
-        Form::Cursor(last) => push_letter_key(out, cursor_intro(modes.application_cursor_keys), last, mods),
+        Form::Cursor(last) => push_letter_key(
+            out,
+            cursor_intro(modes.application_cursor_keys),
+            last,
+            mods,
+        ),
         Form::Application(last) => push_letter_key(out, b'O', last, mods),
         Form::Keypad(last) => push_letter_key(out, b'[', last, mods),
         Form::Edit(number) => push_number_key(out, number, mods),
         Form::Numbered(n) => push_function_key(out, n, mods),
         Form::KeyBackspace => push_backspace(out, mods, modes),
-        Form::KeyEnter => push_own_character(out, 0x0d, newline_text(modes.newline_mode), mods, modes),
+        Form::KeyEnter => push_own_character(
+            out,
+            0x0d,
+            newline_text(modes.newline_mode),
+            mods,
+            modes,
+        ),
         Form::KeyEscape => push_own_character(out, 0x1b, &[ESC], mods, modes),
         Form::KeyTab => push_tab(out, mods, modes),
         Form::Silent => {}
@@ -158,7 +175,11 @@ fn form_fault(form: Form) -> Option<EncodeFault>
 fn press_fault(form: Form, mods: Modifiers) -> Option<EncodeFault>
     ensures { λ r. ⌜ r ≡ pressFault form (mods .0) ⌝ }
 {
-    if mods.0 > Modifiers::ALL { Some(EncodeFault::Modifiers) } else { form_fault(form) }
+    if mods.0 > Modifiers::ALL {
+        Some(EncodeFault::Modifiers)
+    } else {
+        form_fault(form)
+    }
 }
 
 // Writes the bytes to the front of the output, or refuses and writes nothing.

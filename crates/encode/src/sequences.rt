@@ -3,42 +3,43 @@ ghost use mathlib.Core.Path.{_≡_};
 ghost use mathlib.Core.List.{[], _∷_, _++_};
 ghost use Prim.Native.Nat.{ℕ, _+_, _≤_};
 ghost use lib.ListN.{getD};
-ghost use Rattle.encode.specs.Sequences.{modified, parameter, lettered, letterKey, numberParameter, numberKey, functionKey, escaped};
+ghost use Rattle.encode.specs.Sequences.{modified, lettered, letterKey, numberParameter, numberKey, functionKey};
 ghost use Rattle.writer.specs.Held.{held};
+use character::ESC;
+use character::push_parameter;
 use keycode::Modifiers;
 use writer::Buf;
 use writer::decimal;
 
-pub const ESC: u8 = 0x1b;
-
 // The numbers of Function 5 to 24.
-const FUNCTION_CODES: [u8; 20] = [15, 17, 18, 19, 20, 21, 23, 24, 25, 26, 28, 29, 31, 32, 33, 34, 42, 43, 44, 45];
+const FUNCTION_CODES: [u8; 20] = [
+    15,
+    17,
+    18,
+    19,
+    20,
+    21,
+    23,
+    24,
+    25,
+    26,
+    28,
+    29,
+    31,
+    32,
+    33,
+    34,
+    42,
+    43,
+    44,
+    45,
+];
 
 // Whether SHIFT, ALT or CTRL is held.
 fn is_modified(mods: Modifiers) -> bool
     ensures { λ r. ⌜ r ≡ modified (mods .0) ⌝ }
 {
     mods.encode_xterm() != 0
-}
-
-// The modifier parameter: one digit.
-pub fn push_parameter(out: &mut Buf, mods: Modifiers)
-    requires { ⌜ now out .len + 1 ≤ 64 ⌝ }
-    ensures bytes { λ _. ⌜ held (now (out .exit)) ≡ held (now (out .entry)) ++ parameter (mods .0) ⌝ }
-    ensures len { λ _. ⌜ now (out .exit) .len ≡ now (out .entry) .len + 1 ⌝ }
-{
-    decimal(out, 1 + mods.encode_xterm() as u32);
-}
-
-// ESC where ALT is held.
-pub fn push_escape_for_alt(out: &mut Buf, mods: Modifiers)
-    requires { ⌜ now out .len + 1 ≤ 64 ⌝ }
-    ensures bytes { λ _. ⌜ held (now (out .exit)) ≡ held (now (out .entry)) ++ escaped (mods .0) ⌝ }
-    ensures len { λ _. ⌜ now (out .exit) .len ≤ now (out .entry) .len + 1 ⌝ }
-{
-    if mods.contains(Modifiers::ALT) {
-        out.push(ESC);
-    }
 }
 
 // CSI 1 ; n and a final letter.

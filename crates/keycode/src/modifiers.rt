@@ -11,16 +11,27 @@ pub struct Modifiers(pub u16);
 
 impl Modifiers {
     pub const NONE: Modifiers = Modifiers(0);
+
     pub const SHIFT: Modifiers = Modifiers(1);
+
     pub const ALT: Modifiers = Modifiers(2);
+
     pub const CTRL: Modifiers = Modifiers(4);
+
     pub const SUPER: Modifiers = Modifiers(8);
+
     pub const LEFT_ALT: Modifiers = Modifiers(16);
+
     pub const RIGHT_ALT: Modifiers = Modifiers(32);
+
     pub const LEFT_CTRL: Modifiers = Modifiers(64);
+
     pub const RIGHT_CTRL: Modifiers = Modifiers(128);
+
     pub const LEFT_SHIFT: Modifiers = Modifiers(256);
+
     pub const RIGHT_SHIFT: Modifiers = Modifiers(512);
+
     pub const ENHANCED_KEY: Modifiers = Modifiers(1024);
 
     // The largest set: all eleven.

@@ -25,5 +25,5 @@ all-read-back = refl
 
 pub read-back : (m : ℕ) → m < 16 → setOf (modsText m) ≡ Some (record { 0 = m })
 read-back m lt =
-  sym (getD-map-counting (λ k. setOf (modsText k)) 0 16 m m None lt (zero-add m))
-  ∙ (ap (λ (l : List (Option Modifiers)). getD l m None) all-read-back ∙ getD-map-counting set 0 16 m m None lt (zero-add m))
+    sym (getD-map-counting (λ k. setOf (modsText k)) 0 16 m m None lt (zero-add m))
+    ∙ (ap (λ (l : List (Option Modifiers)). getD l m None) all-read-back ∙ getD-map-counting set 0 16 m m None lt (zero-add m))

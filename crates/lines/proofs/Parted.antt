@@ -28,13 +28,13 @@ unfolding before
 parted-at-tab [] i lt none e = absurd (omega arith)
 parted-at-tab (b ∷ bs) zero lt none e = parted-cons b bs true (eq-eqb b 9 e)
 parted-at-tab (b ∷ bs) (suc i) lt none e =
-  let s : suc i + 1 ≡ suc (i + 1) = omega arith in
-  parted-cons b bs false (ne-eqb b 9 (none 0 (omega arith)))
-  ∙ (ap (before b) (parted-at-tab bs i (omega arith) (λ k l. none (suc k) (omega arith)) e)
-  ∙ ap (λ (j : ℕ). (b ∷ take i bs) ∷ parted (drop j (b ∷ bs))) (sym s))
+    let s : suc i + 1 ≡ suc (i + 1) = omega arith in
+    parted-cons b bs false (ne-eqb b 9 (none 0 (omega arith)))
+    ∙ (ap (before b) (parted-at-tab bs i (omega arith) (λ k l. none (suc k) (omega arith)) e)
+    ∙ ap (λ (j : ℕ). (b ∷ take i bs) ∷ parted (drop j (b ∷ bs))) (sym s))
 
 pub parted-without : (text : List ℕ) → NoTab text (length text) → parted text ≡ text ∷ []
 unfolding firstField moreFields before
 parted-without [] none = refl
 parted-without (b ∷ bs) none =
-  parted-cons b bs false (ne-eqb b 9 (none 0 (omega arith))) ∙ ap (before b) (parted-without bs (λ k l. none (suc k) (omega arith)))
+    parted-cons b bs false (ne-eqb b 9 (none 0 (omega arith))) ∙ ap (before b) (parted-without bs (λ k l. none (suc k) (omega arith)))

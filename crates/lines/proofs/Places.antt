@@ -18,9 +18,9 @@ module _ (table : List (List ℕ)) (text : List ℕ) (i : ℕ) where
   pub place-more : (entry : List ℕ) (r t : Bool) → i < length table → entry ≡ getD table i [] → Decides r (entry ≡ text) → r ≡ t → placeFrom i (drop i table) text ≡ cond t (Some i) (placeFrom (i + 1) (drop (i + 1) table) text)
   unfolding placeFrom
   place-more entry r t lt here d e =
-    at-drop-more (λ l. placeFrom i l text) table i [] lt
-    ∙ ap (λ b. cond b (Some i) (placeFrom (i + 1) (drop (i + 1) table) text))
-    (ap (λ n. sameBytes n text) (sym here) ∙ (same-from-decides (sameBytes entry text) r (sameBytes-decides entry text) d ∙ e))
+      at-drop-more (λ l. placeFrom i l text) table i [] lt
+      ∙ ap (λ b. cond b (Some i) (placeFrom (i + 1) (drop (i + 1) table) text))
+      (ap (λ n. sameBytes n text) (sym here) ∙ (same-from-decides (sameBytes entry text) r (sameBytes-decides entry text) d ∙ e))
 
   pub place-all : length table ≤ i → placeFrom i (drop i table) text ≡ None
   unfolding placeFrom

@@ -30,9 +30,9 @@ number OtherForm = 11
 -- a key by its name and its number: of `Char` in base 16, of `Function` in base 10, and `-` where a key holds none
 abbrev pub keyed : List ℕ → List ℕ → Option KeyCode
 keyed name digits =
-  cond (sameBytes name (codes "Char")) (mapped Char (hexNumber digits))
-  (cond (sameBytes name (codes "Function")) (mapped Function (decNumber digits))
-  (cond (sameBytes digits (codes "-")) (keyNamed name) None))
+    cond (sameBytes name (codes "Char")) (mapped Char (hexNumber digits))
+    (cond (sameBytes name (codes "Function")) (mapped Function (decNumber digits))
+    (cond (sameBytes digits (codes "-")) (keyNamed name) None))
 
 abbrev pub event : Option KeyCode → Option Modifiers → Option KeyEvent
 event None m = None

@@ -10,7 +10,22 @@ use keycode::Modifiers;
 
 // The texts of the sets from 0 to 15: S for SHIFT, A for ALT, C for CTRL, P for SUPER.
 const TEXTS: [&'static str; 16] = [
-    "-", "S", "A", "SA", "C", "SC", "AC", "SAC", "P", "SP", "AP", "SAP", "CP", "SCP", "ACP", "SACP",
+    "-",
+    "S",
+    "A",
+    "SA",
+    "C",
+    "SC",
+    "AC",
+    "SAC",
+    "P",
+    "SP",
+    "AP",
+    "SAP",
+    "CP",
+    "SCP",
+    "ACP",
+    "SACP",
 ];
 
 // The text of a set of the table.

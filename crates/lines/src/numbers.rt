@@ -1,6 +1,6 @@
 // Numbers as a line writes them: digits of a base, the first the most significant, with no leading zero.
 ghost use mathlib.Core.Path.{_≡_};
-ghost use Prim.Native.Nat.{_≤_, _<_};
+ghost use Prim.Native.Nat.{_≤_};
 ghost use Rattle.lines.specs.Numbers.{digitIn, plain, upTo, numeral, hexNumber, decNumber};
 
 // The value of a digit of the base: 0 to 9, then A to F.
@@ -8,8 +8,8 @@ fn digit(b: u8, base: u8) -> Option<u8>
     ensures { λ r. ⌜ r ≡ digitIn base b ⌝ }
 {
     let d = match b {
-        b'0'..=b'9' => b - 48,
-        b'A'..=b'F' => b - 55,
+        b'0'..=b'9' => b - b'0',
+        b'A'..=b'F' => b - b'A' + 10,
         _ => return None,
     };
     if d < base { Some(d) } else { None }

@@ -52,7 +52,10 @@ fn press(fields: &[u8]) -> Option<KeyEvent>
     if rest.is_some() {
         return None;
     }
-    Some(KeyEvent { key: keyed(name, digits)?, modifiers: mods_of(mods)? })
+    Some(KeyEvent {
+        key: keyed(name, digits)?,
+        modifiers: mods_of(mods)?,
+    })
 }
 
 // The request of a line of any length.

@@ -12,7 +12,10 @@ impl Buf {
         ensures bytes { λ r. ⌜ held r ≡ [] ⌝ }
         ensures len { λ r. ⌜ r .len ≡ 0 ⌝ }
     {
-        Buf { bytes: [0; 64], len: 0 }
+        Buf {
+            bytes: [0; 64],
+            len: 0,
+        }
     }
 
     // The bytes written so far.

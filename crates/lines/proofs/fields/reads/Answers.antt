@@ -6,5 +6,5 @@ use Rattle.lines.proofs.fields.reads.Needs as need
 
 pub returns : need.returns
 returns c =
-  same-from-decides (c .eq .result) (sameBytes (c .args .field .now) (c .as-bytes .result .now)) (matches-decides _ _ _ (c .eq .ensures)) (sameBytes-decides _ _)
-  ∙ ap (sameBytes (c .args .field .now)) (c .as-bytes .ensures .value)
+    same-from-decides (c .eq .result) (sameBytes (c .args .field .now) (c .as-bytes .result .now)) (matches-decides _ _ _ (c .eq .ensures)) (sameBytes-decides _ _)
+    ∙ ap (sameBytes (c .args .field .now)) (c .as-bytes .ensures .value)

@@ -7,7 +7,7 @@ use Rattle.lines.proofs.mods.mods_text.Needs as need
 
 pub returns : need.returns
 returns c =
-  let m = c .args .modifiers .0 % 16 in
-  let lt : m < 16 = omega arith in
-  let e = c .text-at .ensures ∙ text-at m lt in
-  record { value = e; back = ap setOf e ∙ read-back m lt }
+    let m = c .args .modifiers .0 % 16 in
+    let lt : m < 16 = omega arith in
+    let e = c .text-at .ensures ∙ text-at m lt in
+    record { value = e; back = ap setOf e ∙ read-back m lt }

@@ -8,9 +8,9 @@ use Rattle.writer.proofs.buf.Buf.extend.Needs as need
 
 pub loop-b-again : need.loop-b-again
 loop-b-again c =
-  let h : c .loop-b .b-index < length (c .args .text .now) = omega arith in
-  let e = take-more (c .args .text .now) (c .loop-b .b-index) 0 h in
-  (grind (arith, e, append-assoc), omega arith)
+    let h : c .loop-b .b-index < length (c .args .text .now) = omega arith in
+    let e = take-more (c .args .text .now) (c .loop-b .b-index) 0 h in
+    (grind (arith, e, append-assoc), omega arith)
 
 pub returns : need.returns
 returns c = record { bytes = search (needs, take-all); len = search needs }

@@ -2,8 +2,8 @@
 ghost use mathlib.Core.Path.{_≡_};
 ghost use mathlib.Core.List.{[], _∷_, _++_};
 ghost use Prim.Native.Nat.{ℕ, _+_, _≤_, _<_};
-ghost use Rattle.encode.specs.Typed.{controlOf, traditionally, byRoute, otherKey, keeps, shifted, unshown, typed};
-ghost use Rattle.encode.specs.declared.level.Route.the-variants.{Unicode, Numbered};
+ghost use Rattle.character.specs.Typed.{controlOf, traditionally, byRoute, otherKey, keeps, shifted, unshown, typed};
+ghost use Rattle.character.specs.declared.level.Route.the-variants.{Unicode, Numbered};
 ghost use Rattle.writer.specs.Held.{held};
 use crate::control::ctrl_code;
 use crate::control::is_graphic;
@@ -12,8 +12,8 @@ use crate::control::owns_shift;
 use crate::level::Route;
 use crate::modes::is_claimed;
 use crate::modes::route;
-use crate::sequences::push_escape_for_alt;
-use crate::sequences::push_parameter;
+use crate::parts::push_escape_for_alt;
+use crate::parts::push_parameter;
 use keycode::KeyCodeEncodeModes;
 use keycode::Modifiers;
 use writer::Buf;
@@ -24,7 +24,11 @@ use writer::utf8;
 fn normalize_shift_to_upper_case(c: u32, mods: Modifiers) -> u32
     ensures { λ r. ⌜ r ≡ shifted c (mods .0) ⌝ }
 {
-    if mods.contains(Modifiers::SHIFT) && is_lower(c) { c - 32 } else { c }
+    if mods.contains(Modifiers::SHIFT) && is_lower(c) {
+        c - 32
+    } else {
+        c
+    }
 }
 
 // SHIFT is dropped where the character shows it.
@@ -42,7 +46,11 @@ fn drop_shown_shift(c: u32, mods: Modifiers) -> Modifiers
 fn control_of(c: u32, mods: Modifiers) -> Option<u8>
     ensures { λ r. ⌜ r ≡ controlOf c (mods .0) ⌝ }
 {
-    if mods.contains(Modifiers::CTRL) { ctrl_code(c) } else { None }
+    if mods.contains(Modifiers::CTRL) {
+        ctrl_code(c)
+    } else {
+        None
+    }
 }
 
 // Whether a press keeps the form that terminals have always sent.

@@ -1,7 +1,7 @@
 use mathlib.Core.List.{append-assoc}
 use native.Mathlib.Omega.{arith}
-use Rattle.encode.specs.Typed.{traditionally}
-use Rattle.encode.proofs.character.push_traditionally.Needs as need
+use Rattle.character.specs.Typed.{traditionally}
+use Rattle.character.proofs.typed.push_traditionally.Needs as need
 
 pub returns-in-Some : need.returns-in-Some
 unfolding traditionally

@@ -1,6 +1,6 @@
 use native.Mathlib.Omega.{arith}
-use Rattle.encode.specs.Typed.{typed}
-use Rattle.encode.proofs.character.push_character.Needs as need
+use Rattle.character.specs.Typed.{typed}
+use Rattle.character.proofs.typed.push_character.Needs as need
 
 pub returns-then-keeps-its-form : need.returns-then-keeps-its-form
 unfolding typed

@@ -1,6 +1,6 @@
 // Control characters, and the kinds of ASCII characters.
 ghost use mathlib.Core.Path.{_≡_};
-ghost use Rattle.encode.specs.Characters.{ctrlOf, lower, upper, graphic, ownsShift, ambiguous, wellKnown};
+ghost use Rattle.character.specs.Characters.{ctrlOf, lower, upper, graphic, ownsShift, ambiguous, wellKnown};
 
 // The control character that a terminal sends for CTRL and a character, if there is one.
 pub fn ctrl_mapping(c: char) -> Option<u8>

@@ -1,7 +1,7 @@
 use mathlib.Core.List.{append-assoc}
 use native.Mathlib.Omega.{arith}
 use Rattle.writer.proofs.Digits.{dec-short}
-use Rattle.encode.proofs.character.push_numbered.Needs as need
+use Rattle.character.proofs.typed.push_numbered.Needs as need
 
 pub decimal-requires : need.decimal-requires
 decimal-requires c κs = omega (arith, dec-short 6 (c .args .c) (omega arith))

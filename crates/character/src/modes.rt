@@ -1,6 +1,6 @@
 // What the modes ask for.
 ghost use mathlib.Core.Path.{_≡_};
-ghost use Rattle.encode.specs.Typed.{levelOf, isTwo, isCsiU, levelRoute, routeOf, claimed};
+ghost use Rattle.character.specs.Typed.{levelOf, isTwo, isCsiU, levelRoute, routeOf, claimed};
 use crate::control::is_ambiguous_ascii_ctrl;
 use crate::control::is_upper;
 use crate::control::is_well_known;
@@ -10,7 +10,7 @@ use keycode::KeyCodeEncodeModes;
 use keycode::KeyboardEncoding;
 
 // The level of modifyOtherKeys: 0 counts as absent.
-pub fn level(value: Option<i64>) -> Level
+pub fn level_of(value: Option<i64>) -> Level
     ensures { λ r. ⌜ r ≡ levelOf value ⌝ }
 {
     match value {
@@ -64,7 +64,7 @@ pub fn route(c: u32, modes: KeyCodeEncodeModes) -> Route
     if is_csi_u(modes.encoding) && c < 0x80 {
         Route::Unicode
     } else {
-        level_route(level(modes.modify_other_keys), c)
+        level_route(level_of(modes.modify_other_keys), c)
     }
 }
 
@@ -75,5 +75,5 @@ pub fn is_claimed(c: u32, modes: KeyCodeEncodeModes) -> bool
     if is_csi_u(modes.encoding) && is_ambiguous_ascii_ctrl(c) {
         return true;
     }
-    is_upper(c) || is_two(level(modes.modify_other_keys))
+    is_upper(c) || is_two(level_of(modes.modify_other_keys))
 }

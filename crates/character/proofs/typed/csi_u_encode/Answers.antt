@@ -1,6 +1,6 @@
 use native.Mathlib.Omega.{arith}
-use Rattle.encode.specs.Typed.{otherKey}
-use Rattle.encode.proofs.character.csi_u_encode.Needs as need
+use Rattle.character.specs.Typed.{otherKey}
+use Rattle.character.proofs.typed.csi_u_encode.Needs as need
 
 pub returns-in-Unicode : need.returns-in-Unicode
 unfolding otherKey

@@ -13,12 +13,12 @@ use Rattle.keycode.specs.declared.modes.KeyCodeEncodeModes.{KeyCodeEncodeModes}
 use Rattle.keycode.specs.declared.modes.KeyboardEncoding.{KeyboardEncoding}
 use Rattle.keycode.specs.declared.modes.KeyboardEncoding.the-variants.{Xterm, CsiU, Win32, Kitty}
 use Rattle.writer.specs.Numbers.{dec, utf8Of}
-use Rattle.encode.specs.declared.level.Level.{Level}
-use Rattle.encode.specs.declared.level.Level.the-variants.{Off, One, Two, Other}
-use Rattle.encode.specs.declared.level.Route.{Route}
-use Rattle.encode.specs.declared.level.Route.the-variants.{Unicode, Numbered, Traditional}
-use Rattle.encode.specs.Characters.{lower, upper, graphic, ownsShift, ambiguous, wellKnown, ctrlOf}
-use Rattle.encode.specs.Sequences.{csi, parameter, escaped}
+use Rattle.character.specs.declared.level.Level.{Level}
+use Rattle.character.specs.declared.level.Level.the-variants.{Off, One, Two, Other}
+use Rattle.character.specs.declared.level.Route.{Route}
+use Rattle.character.specs.declared.level.Route.the-variants.{Unicode, Numbered, Traditional}
+use Rattle.character.specs.Characters.{lower, upper, graphic, ownsShift, ambiguous, wellKnown, ctrlOf}
+use Rattle.character.specs.Parts.{csi, parameter, escaped}
 
 -- the level of modifyOtherKeys: 0 is off, as absent is
 abbrev pub levelOf : Option ℤ → Level

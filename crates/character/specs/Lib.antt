@@ -1,0 +1,3 @@
+pub mod Characters
+pub mod Parts
+pub mod Typed
