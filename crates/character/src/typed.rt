@@ -74,7 +74,8 @@ fn keeps_its_form(c: u32, mods: Modifiers, modes: KeyCodeEncodeModes) -> bool
 fn push_traditionally(out: &mut Buf, c: u32, mods: Modifiers)
     requires room { ⌜ now out .len ≤ 32 ⌝ }
     requires plane { ⌜ c < 1114112 ⌝ }
-    ensures { λ _. ⌜ held (now (out .exit)) ≡ held (now (out .entry)) ++ traditionally c (mods .0) ⌝ }
+    ensures bytes { λ _. ⌜ held (now (out .exit)) ≡ held (now (out .entry)) ++ traditionally c (mods .0) ⌝ }
+    ensures len { λ _. ⌜ now (out .exit) .len ≤ now (out .entry) .len + 15 ⌝ }
 {
     push_escape_for_alt(out, mods);
     match control_of(c, mods) {
@@ -87,7 +88,8 @@ fn push_traditionally(out: &mut Buf, c: u32, mods: Modifiers)
 fn push_unicode(out: &mut Buf, c: u32, mods: Modifiers)
     requires room { ⌜ now out .len ≤ 32 ⌝ }
     requires plane { ⌜ c < 1114112 ⌝ }
-    ensures { λ _. ⌜ held (now (out .exit)) ≡ held (now (out .entry)) ++ byRoute Unicode c (mods .0) ⌝ }
+    ensures bytes { λ _. ⌜ held (now (out .exit)) ≡ held (now (out .entry)) ++ byRoute Unicode c (mods .0) ⌝ }
+    ensures len { λ _. ⌜ now (out .exit) .len ≤ now (out .entry) .len + 15 ⌝ }
 {
     out.extend(b"\x1b[");
     decimal(out, c);
@@ -100,7 +102,8 @@ fn push_unicode(out: &mut Buf, c: u32, mods: Modifiers)
 fn push_numbered(out: &mut Buf, c: u32, mods: Modifiers)
     requires room { ⌜ now out .len ≤ 32 ⌝ }
     requires plane { ⌜ c < 1114112 ⌝ }
-    ensures { λ _. ⌜ held (now (out .exit)) ≡ held (now (out .entry)) ++ byRoute Numbered c (mods .0) ⌝ }
+    ensures bytes { λ _. ⌜ held (now (out .exit)) ≡ held (now (out .entry)) ++ byRoute Numbered c (mods .0) ⌝ }
+    ensures len { λ _. ⌜ now (out .exit) .len ≤ now (out .entry) .len + 15 ⌝ }
 {
     out.extend(b"\x1b[27;");
     push_parameter(out, mods);
@@ -113,7 +116,8 @@ fn push_numbered(out: &mut Buf, c: u32, mods: Modifiers)
 pub fn csi_u_encode(out: &mut Buf, c: u32, mods: Modifiers, modes: KeyCodeEncodeModes)
     requires room { ⌜ now out .len ≤ 32 ⌝ }
     requires plane { ⌜ c < 1114112 ⌝ }
-    ensures { λ _. ⌜ held (now (out .exit)) ≡ held (now (out .entry)) ++ otherKey c (mods .0) modes ⌝ }
+    ensures bytes { λ _. ⌜ held (now (out .exit)) ≡ held (now (out .entry)) ++ otherKey c (mods .0) modes ⌝ }
+    ensures len { λ _. ⌜ now (out .exit) .len ≤ now (out .entry) .len + 15 ⌝ }
 {
     match route(c, modes) {
         Route::Unicode => push_unicode(out, c, mods),
@@ -126,7 +130,8 @@ pub fn csi_u_encode(out: &mut Buf, c: u32, mods: Modifiers, modes: KeyCodeEncode
 pub fn push_character(out: &mut Buf, c: u32, mods: Modifiers, modes: KeyCodeEncodeModes)
     requires room { ⌜ now out .len ≤ 32 ⌝ }
     requires plane { ⌜ c < 1114112 ⌝ }
-    ensures { λ _. ⌜ held (now (out .exit)) ≡ held (now (out .entry)) ++ typed c (mods .0) modes ⌝ }
+    ensures bytes { λ _. ⌜ held (now (out .exit)) ≡ held (now (out .entry)) ++ typed c (mods .0) modes ⌝ }
+    ensures len { λ _. ⌜ now (out .exit) .len ≤ now (out .entry) .len + 15 ⌝ }
 {
     let c = normalize_shift_to_upper_case(c, mods);
     let mods = drop_shown_shift(c, mods);

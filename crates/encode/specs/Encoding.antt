@@ -43,6 +43,17 @@ formFault Silent = None
 abbrev pub pressFault : Form → ℕ → Option EncodeFault
 pressFault form m = cond (ltb 2047 m) (Some Modifiers) (formFault form)
 
+-- whether an answer is the refusal of a short output
+abbrev pub shortFault : EncodeFault → Bool
+shortFault Modifiers = false
+shortFault NoScalar = false
+shortFault NoFunction = false
+shortFault OutputShort = true
+
+abbrev pub isShort : Result ℕ EncodeFault → Bool
+isShort (Ok n) = false
+isShort (Err fault) = shortFault fault
+
 -- an answer, and the output after it
 pub record Sent : Type 0 where
   pub said : Result ℕ EncodeFault

@@ -1,4 +1,5 @@
 pub mod Encoding
 pub mod Forms
+pub mod Plain
 pub mod Pressed
 pub mod Sequences

@@ -6,7 +6,7 @@ ghost use Prim.Native.Nat.{ℕ, _+_, _≤_, _<_};
 ghost use lib.ListN.{length};
 ghost use Rattle.std.specs.Options.{isSome};
 ghost use Rattle.encode.specs.Pressed.{backspace, ownCharacter, tabUnder, isOn, tab, byForm};
-ghost use Rattle.encode.specs.Encoding.{formFault, pressFault, sent, delivered, encoding};
+ghost use Rattle.encode.specs.Encoding.{formFault, pressFault, sent, isShort, delivered, encoding};
 ghost use Rattle.character.specs.Characters.{scalar};
 ghost use Rattle.writer.specs.Held.{held};
 use crate::form::EncodeFault;
@@ -29,7 +29,8 @@ use writer::Buf;
 // Backspace sends DEL; CTRL and SHIFT make it a modified character.
 fn push_backspace(out: &mut Buf, mods: Modifiers, modes: KeyCodeEncodeModes)
     requires { ⌜ now out .len ≤ 32 ⌝ }
-    ensures { λ _. ⌜ held (now (out .exit)) ≡ held (now (out .entry)) ++ backspace (mods .0) modes ⌝ }
+    ensures bytes { λ _. ⌜ held (now (out .exit)) ≡ held (now (out .entry)) ++ backspace (mods .0) modes ⌝ }
+    ensures len { λ _. ⌜ now (out .exit) .len ≤ now (out .entry) .len + 15 ⌝ }
 {
     if mods.contains(Modifiers::CTRL) {
         csi_u_encode(out, 0x08, mods, modes);
@@ -49,9 +50,11 @@ fn push_own_character(
     mods: Modifiers,
     modes: KeyCodeEncodeModes,
 )
-    requires room { ⌜ now out .len + length (now text) ≤ 32 ⌝ }
+    requires room { ⌜ now out .len ≤ 32 ⌝ }
+    requires short { ⌜ length (now text) ≤ 2 ⌝ }
     requires plane { ⌜ c < 1114112 ⌝ }
-    ensures { λ _. ⌜ held (now (out .exit)) ≡ held (now (out .entry)) ++ ownCharacter c (now (text .entry)) (mods .0) modes ⌝ }
+    ensures bytes { λ _. ⌜ held (now (out .exit)) ≡ held (now (out .entry)) ++ ownCharacter c (now (text .entry)) (mods .0) modes ⌝ }
+    ensures len { λ _. ⌜ now (out .exit) .len ≤ now (out .entry) .len + 15 ⌝ }
 {
     if mods.contains(Modifiers::SHIFT) {
         csi_u_encode(out, c, mods, modes);
@@ -92,7 +95,8 @@ fn tab_text(mods: Modifiers) -> &'static [u8]
 
 fn push_tab(out: &mut Buf, mods: Modifiers, modes: KeyCodeEncodeModes)
     requires { ⌜ now out .len ≤ 32 ⌝ }
-    ensures { λ _. ⌜ held (now (out .exit)) ≡ held (now (out .entry)) ++ tab (mods .0) modes ⌝ }
+    ensures bytes { λ _. ⌜ held (now (out .exit)) ≡ held (now (out .entry)) ++ tab (mods .0) modes ⌝ }
+    ensures len { λ _. ⌜ now (out .exit) .len ≤ now (out .entry) .len + 15 ⌝ }
 {
     if !mods.is_empty() && is_on(level_of(modes.modify_other_keys)) {
         csi_u_encode(out, 0x09, mods, modes);
@@ -113,7 +117,8 @@ fn cursor_intro(application_cursor_keys: bool) -> u8
 fn push_press(out: &mut Buf, form: Form, mods: Modifiers, modes: KeyCodeEncodeModes)
     requires room { ⌜ now out .len ≤ 16 ⌝ }
     requires sound { ⌜ isSome (formFault form) ≡ false ⌝ }
-    ensures { λ _. ⌜ held (now (out .exit)) ≡ held (now (out .entry)) ++ byForm form (mods .0) modes ⌝ }
+    ensures bytes { λ _. ⌜ held (now (out .exit)) ≡ held (now (out .entry)) ++ byForm form (mods .0) modes ⌝ }
+    ensures len { λ _. ⌜ now (out .exit) .len ≤ now (out .entry) .len + 15 ⌝ }
 {
     match form {
         Form::Typed(c) => push_character(out, c, mods, modes),
@@ -184,7 +189,8 @@ fn press_fault(form: Form, mods: Modifiers) -> Option<EncodeFault>
 
 // Writes the bytes to the front of the output, or refuses and writes nothing.
 fn deliver(bytes: &[u8], out: &mut [u8]) -> Result<usize, EncodeFault>
-    ensures { λ r. ⌜ sent r (now (out .exit)) ≡ delivered (now (bytes .entry)) (now (out .entry)) ⌝ }
+    ensures after { λ r. ⌜ sent r (now (out .exit)) ≡ delivered (now (bytes .entry)) (now (out .entry)) ⌝ }
+    ensures room { λ r. ⌜ (length (now (bytes .entry)) ≤ length (now (out .entry)) → isShort r ≡ false) ⌝ }
 {
     let n = bytes.len();
     if n > out.len() {
@@ -195,7 +201,7 @@ fn deliver(bytes: &[u8], out: &mut [u8]) -> Result<usize, EncodeFault>
 }
 
 // The bytes that a terminal sends for a key, to the front of the output, and their count; or a refusal, which leaves the
-// output as it was. Past the count the output stays. A key up sends nothing.
+// output as it was. Past the count the output stays. A key up sends nothing. No press has more than 15 bytes.
 pub fn encode(
     key: KeyCode,
     mods: Modifiers,
@@ -203,7 +209,8 @@ pub fn encode(
     is_down: bool,
     out: &mut [u8],
 ) -> Result<usize, EncodeFault>
-    ensures { λ r. ⌜ sent r (now (out .exit)) ≡ encoding key (mods .0) modes «is_down» (now (out .entry)) ⌝ }
+    ensures after { λ r. ⌜ sent r (now (out .exit)) ≡ encoding key (mods .0) modes «is_down» (now (out .entry)) ⌝ }
+    ensures room { λ r. ⌜ (15 ≤ length (now (out .entry)) → isShort r ≡ false) ⌝ }
 {
     if !is_down {
         return Ok(0);

@@ -35,3 +35,19 @@ pub enum EncodeFault {
     // the output is shorter than the bytes
     OutputShort,
 }
+
+// Under which modifiers a key is a plain press.
+#[derive(Clone, Copy)]
+pub enum Plainness {
+    // a character, as its own rule says
+    Character(u32),
+    // a function key
+    Key(u8),
+    // under every set of SHIFT, ALT and CTRL
+    Everywhere,
+    // alone and with SHIFT
+    Shifted,
+    // alone
+    Alone,
+    Never,
+}

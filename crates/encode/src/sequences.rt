@@ -45,7 +45,8 @@ fn is_modified(mods: Modifiers) -> bool
 // CSI 1 ; n and a final letter.
 fn push_lettered(out: &mut Buf, last: u8, mods: Modifiers)
     requires { ⌜ now out .len ≤ 32 ⌝ }
-    ensures { λ _. ⌜ held (now (out .exit)) ≡ held (now (out .entry)) ++ lettered last (mods .0) ⌝ }
+    ensures bytes { λ _. ⌜ held (now (out .exit)) ≡ held (now (out .entry)) ++ lettered last (mods .0) ⌝ }
+    ensures len { λ _. ⌜ now (out .exit) .len ≤ now (out .entry) .len + 15 ⌝ }
 {
     out.extend(b"\x1b[1;");
     push_parameter(out, mods);
@@ -55,7 +56,8 @@ fn push_lettered(out: &mut Buf, last: u8, mods: Modifiers)
 // A key with a final letter: `intro` is the second byte where no modifier is held, `[` or `O`.
 pub fn push_letter_key(out: &mut Buf, intro: u8, last: u8, mods: Modifiers)
     requires { ⌜ now out .len ≤ 32 ⌝ }
-    ensures { λ _. ⌜ held (now (out .exit)) ≡ held (now (out .entry)) ++ letterKey (27 ∷ intro ∷ last ∷ []) last (mods .0) ⌝ }
+    ensures bytes { λ _. ⌜ held (now (out .exit)) ≡ held (now (out .entry)) ++ letterKey (27 ∷ intro ∷ last ∷ []) last (mods .0) ⌝ }
+    ensures len { λ _. ⌜ now (out .exit) .len ≤ now (out .entry) .len + 15 ⌝ }
 {
     if is_modified(mods) {
         push_lettered(out, last, mods);
@@ -79,7 +81,8 @@ fn push_number_parameter(out: &mut Buf, mods: Modifiers)
 // A key with a number.
 pub fn push_number_key(out: &mut Buf, number: u8, mods: Modifiers)
     requires { ⌜ now out .len ≤ 32 ⌝ }
-    ensures { λ _. ⌜ held (now (out .exit)) ≡ held (now (out .entry)) ++ numberKey number (mods .0) ⌝ }
+    ensures bytes { λ _. ⌜ held (now (out .exit)) ≡ held (now (out .entry)) ++ numberKey number (mods .0) ⌝ }
+    ensures len { λ _. ⌜ now (out .exit) .len ≤ now (out .entry) .len + 15 ⌝ }
 {
     out.extend(b"\x1b[");
     decimal(out, number as u32);
@@ -91,7 +94,8 @@ pub fn push_number_key(out: &mut Buf, number: u8, mods: Modifiers)
 pub fn push_function_key(out: &mut Buf, n: u8, mods: Modifiers)
     requires room { ⌜ now out .len ≤ 32 ⌝ }
     requires number { ⌜ (1 ≤ n) × (n ≤ 24) ⌝ }
-    ensures { λ _. ⌜ held (now (out .exit)) ≡ held (now (out .entry)) ++ functionKey n (mods .0) ⌝ }
+    ensures bytes { λ _. ⌜ held (now (out .exit)) ≡ held (now (out .entry)) ++ functionKey n (mods .0) ⌝ }
+    ensures len { λ _. ⌜ now (out .exit) .len ≤ now (out .entry) .len + 15 ⌝ }
 {
     if n >= 5 {
         push_number_key(out, FUNCTION_CODES[n as usize - 5], mods);

@@ -5,8 +5,8 @@ use Rattle.character.proofs.typed.push_traditionally.Needs as need
 
 pub returns-in-Some : need.returns-in-Some
 unfolding traditionally
-returns-in-Some c = let e = c .in-Some .ensures tt in grind (arith, e, append-assoc)
+returns-in-Some c = let e = c .in-Some .ensures tt in record { bytes = grind (arith, e, append-assoc); len = omega arith }
 
 pub returns-in-None : need.returns-in-None
 unfolding traditionally
-returns-in-None c = let e = c .in-None .ensures tt in grind (arith, e, append-assoc)
+returns-in-None c = let e = c .in-None .ensures tt in record { bytes = grind (arith, e, append-assoc); len = omega arith }

@@ -1,3 +1,4 @@
+use mathlib.Core.Path.{refl}
 use native.Mathlib.Nat.{sub-zero}
 use native.Mathlib.Omega.{arith}
 use Rattle.std.proofs.shelf.Ways.{tells}
@@ -6,8 +7,8 @@ use Rattle.encode.proofs.encoder.deliver.Needs as need
 
 pub returns-then-n-out : need.returns-then-n-out
 unfolding delivered
-returns-then-n-out c = grind (arith, tells)
+returns-then-n-out c = record { after = grind (arith, tells); room = λ h. absurd (omega arith) }
 
 pub returns : need.returns
 unfolding delivered
-returns c = grind (arith, tells, c .copy-from-slice .ensures .after, sub-zero)
+returns c = record { after = grind (arith, tells, c .copy-from-slice .ensures .after, sub-zero); room = λ h. refl }

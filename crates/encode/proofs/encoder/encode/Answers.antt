@@ -1,16 +1,22 @@
+use mathlib.Core.Path.{refl}
 use native.Mathlib.Omega.{arith}
 use Rattle.encode.specs.Encoding.{encoding}
 use Rattle.encode.specs.Pressed.{pressed}
+use Rattle.encode.proofs.Faults.{press-not-short}
 use Rattle.encode.proofs.encoder.encode.Needs as need
 
 pub returns-then-not-is-down : need.returns-then-not-is-down
 unfolding encoding
-returns-then-not-is-down c = grind arith
+returns-then-not-is-down c = record { after = grind arith; room = λ h. refl }
 
 pub returns-in-Some : need.returns-in-Some
 unfolding encoding
-returns-in-Some c = let e = c .in-Some .ensures tt in grind (arith, e)
+returns-in-Some c =
+    let e = c .in-Some .ensures tt in
+    record { after = grind (arith, e); room = λ h. press-not-short (c .form-of-form .result) (c .args .mods .0) (c .in-Some .fault) e }
 
 pub returns : need.returns
 unfolding encoding pressed
-returns c = let e = c .in-rest .ensures tt in let i = c .in-rest .is in grind (arith, e)
+returns c =
+    let e = c .in-rest .ensures tt in
+    record { after = grind (arith, e); room = λ h. c .deliver .ensures .room (omega (arith, h)) }

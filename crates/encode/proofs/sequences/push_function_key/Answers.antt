@@ -5,12 +5,12 @@ use Rattle.encode.proofs.sequences.push_function_key.Needs as need
 
 pub returns-then-n-ge5 : need.returns-then-n-ge5
 unfolding functionKey functionCodes
-returns-then-n-ge5 c = grind (arith, tells)
+returns-then-n-ge5 c = record { bytes = grind (arith, tells); len = omega arith }
 
 pub returns-then-is-empty : need.returns-then-is-empty
 unfolding functionKey
-returns-then-is-empty c = grind (arith, tells)
+returns-then-is-empty c = record { bytes = grind (arith, tells); len = omega arith }
 
 pub returns-else-is-empty : need.returns-else-is-empty
 unfolding functionKey
-returns-else-is-empty c = grind (arith, tells)
+returns-else-is-empty c = record { bytes = grind (arith, tells); len = omega arith }

@@ -6,8 +6,8 @@ use Rattle.encode.proofs.sequences.push_letter_key.Needs as need
 
 pub returns-then-is-modified : need.returns-then-is-modified
 unfolding letterKey
-returns-then-is-modified c = grind (arith, tells, append-assoc)
+returns-then-is-modified c = record { bytes = grind (arith, tells, append-assoc); len = omega arith }
 
 pub returns-else-is-modified : need.returns-else-is-modified
 unfolding letterKey
-returns-else-is-modified c = grind (arith, tells, append-assoc)
+returns-else-is-modified c = record { bytes = grind (arith, tells, append-assoc); len = omega arith }

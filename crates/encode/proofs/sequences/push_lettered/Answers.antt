@@ -4,4 +4,4 @@ use Rattle.std.proofs.shelf.Ways.{tells}
 use Rattle.encode.proofs.sequences.push_lettered.Needs as need
 
 pub returns : need.returns
-returns c = grind (arith, append-assoc)
+returns c = record { bytes = grind (arith, append-assoc); len = omega arith }

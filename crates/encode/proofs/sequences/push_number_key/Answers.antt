@@ -15,4 +15,4 @@ push-requires c κs = omega (arith, dec-short 2 (c .args .number) (omega arith))
 
 pub returns : need.returns
 unfolding numberKey
-returns c = grind (arith, append-assoc)
+returns c = record { bytes = grind (arith, append-assoc); len = omega (arith, dec-short 2 (c .args .number) (omega arith)) }
