@@ -6,7 +6,7 @@ ghost use Prim.Native.Nat.{ℕ, _+_, _≤_, _<_};
 ghost use lib.ListN.{length};
 ghost use Rattle.std.specs.Options.{isSome};
 ghost use Rattle.encode.specs.Pressed.{backspace, ownCharacter, tabUnder, isOn, tab, byForm};
-ghost use Rattle.encode.specs.Encoding.{formFault, pressFault, sent, isShort, delivered, encoding};
+ghost use Rattle.encode.specs.Encoding.{number, formFault, pressFault, sent, isShort, delivered, encoding};
 ghost use Rattle.character.specs.Characters.{scalar};
 ghost use Rattle.writer.specs.Held.{held};
 use crate::form::EncodeFault;
@@ -25,6 +25,20 @@ use keycode::KeyCode;
 use keycode::KeyCodeEncodeModes;
 use keycode::Modifiers;
 use writer::Buf;
+
+impl EncodeFault {
+    // The number by which the refusal is told.
+    pub fn number(self) -> u8
+        ensures { λ r. ⌜ r ≡ number self ⌝ }
+    {
+        match self {
+            EncodeFault::Modifiers => 7,
+            EncodeFault::NoScalar => 8,
+            EncodeFault::NoFunction => 9,
+            EncodeFault::OutputShort => 10,
+        }
+    }
+}
 
 // Backspace sends DEL; CTRL and SHIFT make it a modified character.
 fn push_backspace(out: &mut Buf, mods: Modifiers, modes: KeyCodeEncodeModes)

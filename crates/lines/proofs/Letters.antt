@@ -1,7 +1,7 @@
 -- The texts of the sets of modifiers differ, so that each set is read from its own. Assumes nothing.
 use mathlib.Core.Path.{_≡_, refl, sym, _∙_, ap}
 use mathlib.Core.List.{List, [], map}
-use Prim.Native.Nat.{ℕ, _+_, _<_}
+use Prim.Native.Nat.{ℕ, _<_}
 use native.Mathlib.Nat.{zero-add}
 use lib.ListN.{getD}
 use Rattle.std.proofs.shelf.Counted.{getD-map-counting}

@@ -1,4 +1,3 @@
 pub mod Letters
 pub mod Numerals
 pub mod Parted
-pub mod Places

@@ -17,11 +17,11 @@ unfoldable pub moreFields : List ℕ → List (List ℕ)
 moreFields [] = []
 moreFields (b ∷ bs) = cond (eqb b 9) (firstField bs ∷ moreFields bs) (moreFields bs)
 
--- a text parted at its tabs
+-- a text parted at its tabs: one field more than tabs
 abbrev pub parted : List ℕ → List (List ℕ)
 parted text = firstField text ∷ moreFields text
 
--- the fields of the text behind a field, if a tab stands there
-abbrev pub rest : Option (RefT (List ℕ)) → List (List ℕ)
-rest None = []
-rest (Some text) = parted (now text)
+-- the fields of the text behind a tab, or no more fields
+abbrev pub fieldsOf : Option (RefT (List ℕ)) → List (List ℕ)
+fieldsOf None = []
+fieldsOf (Some text) = parted (now text)

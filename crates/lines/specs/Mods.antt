@@ -15,7 +15,7 @@ use Rattle.keycode.specs.declared.modifiers.Modifiers.{Modifiers}
 abbrev pub letter : ℕ → ℕ → List ℕ → List ℕ
 letter m flag text = cond (has m flag) text []
 
--- S for SHIFT, A for ALT, C for CTRL, P for SUPER, in that order
+-- the letters of a set: S for SHIFT, A for ALT, C for CTRL, P for SUPER, in that order
 abbrev pub lettersOf : ℕ → List ℕ
 lettersOf m = letter m 1 (codes "S") ++ (letter m 2 (codes "A") ++ (letter m 4 (codes "C") ++ letter m 8 (codes "P")))
 
@@ -27,6 +27,7 @@ modsText m = cond (eqb m 0) (codes "-") (lettersOf m)
 unfoldable pub modsTexts : List (List ℕ)
 modsTexts = map modsText (counting 0 16)
 
+-- the set of a number
 abbrev pub asSet : Option ℕ → Option Modifiers
 asSet None = None
 asSet (Some m) = Some (record { 0 = m })

@@ -34,6 +34,7 @@ keyed name digits =
     (cond (sameBytes name (codes "Function")) (mapped Function (decNumber digits))
     (cond (sameBytes digits (codes "-")) (keyNamed name) None))
 
+-- a key pressed with modifiers
 abbrev pub event : Option KeyCode → Option Modifiers → Option KeyEvent
 event None m = None
 event (Some k) None = None

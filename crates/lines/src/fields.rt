@@ -2,13 +2,13 @@
 ghost use mathlib.Core.Path.{_≡_};
 ghost use mathlib.Core.List.{_∷_};
 ghost use Rattle.std.specs.shelf.Text.{sameBytes};
-ghost use Rattle.lines.specs.Fields.{parted, rest};
+ghost use Rattle.lines.specs.Fields.{parted, fieldsOf};
 
 const TAB: u8 = b'\t';
 
 // The first field, and the text behind its tab, if it has one.
 pub fn cut(text: &[u8]) -> (&[u8], Option<&[u8]>)
-    ensures { λ r. ⌜ parted (now (text .entry)) ≡ now (r .0) ∷ rest (r .1) ⌝ }
+    ensures { λ r. ⌜ parted (now (text .entry)) ≡ now (r .0) ∷ fieldsOf (r .1) ⌝ }
 {
     for (i, b) in text.iter().enumerate() {
         if *b == TAB {

@@ -2,7 +2,7 @@ use mathlib.Core.Path.{_≡_, sym, _∙_, ap}
 use mathlib.Core.Bool.{true, false}
 use Rattle.std.proofs.shelf.Equals.{matches-decides}
 use Rattle.lines.specs.Mods.{modsTexts, asSet}
-use Rattle.lines.proofs.Places.{place-more, place-all}
+use Rattle.keycode.proofs.Places.{place-more, place-all}
 use Rattle.lines.proofs.mods.mods_of.Needs as need
 
 pub returns-then-eq : need.returns-then-eq
