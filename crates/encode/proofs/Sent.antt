@@ -14,7 +14,11 @@ use Rattle.std.specs.declared.result.Result.{Result}
 use Rattle.std.specs.declared.result.Result.the-variants.{Ok, Err}
 use Rattle.encode.specs.declared.form.EncodeFault.{EncodeFault}
 use Rattle.encode.specs.declared.form.EncodeFault.the-variants.{OutputShort}
-use Rattle.encode.specs.Encoding.{Sent, sent, delivered, unless, isShort, shortFault}
+use Rattle.keycode.specs.declared.key.KeyCode.{KeyCode}
+use Rattle.keycode.specs.declared.modes.KeyCodeEncodeModes.{KeyCodeEncodeModes}
+use Rattle.encode.specs.Encoding.{Sent, sent, delivered, unless, pressFault, encoding, shortFault}
+use Rattle.encode.specs.Forms.{formOf}
+use Rattle.encode.specs.Pressed.{pressed}
 
 -- bytes were sent: there was no cause to refuse, and they stand in front of the output
 pub record Sends (cause : Option EncodeFault) (bytes out : List ℕ) (n : ℕ) (after : List ℕ) : Type 0 where
@@ -49,3 +53,8 @@ module _ (bytes out after : List ℕ) (fault : EncodeFault) where
       let o = short-room (leb (length bytes) (length out)) e in
       absurd (let t : true ≡ false = sym (ap shortFault o) ∙ s in let z : _≡_ {A = ℕ} 0 1 = cc in omega arith)
   err-means (Some f) e s = let q = ap (λ (s : Sent). s .said) e in let g : fault ≡ f = cc in ap Some (sym g)
+
+-- a key down is answered by its cause and its bytes
+pub down-is : (key : KeyCode) (m : ℕ) (modes : KeyCodeEncodeModes) (out : List ℕ) → encoding key m modes true out ≡ unless (pressFault (formOf key) m) (pressed key m modes) out
+unfolding encoding
+down-is key m modes out = refl

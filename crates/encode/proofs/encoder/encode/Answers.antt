@@ -1,5 +1,6 @@
 use mathlib.Core.Path.{refl}
 use native.Mathlib.Omega.{arith}
+use borrow.Author.Needs.{needs}
 use Rattle.encode.specs.Encoding.{encoding}
 use Rattle.encode.specs.Pressed.{pressed}
 use Rattle.encode.proofs.Faults.{press-not-short}
@@ -7,16 +8,16 @@ use Rattle.encode.proofs.encoder.encode.Needs as need
 
 pub returns-then-not-is-down : need.returns-then-not-is-down
 unfolding encoding
-returns-then-not-is-down c = record { after = grind arith; room = λ h. refl }
+returns-then-not-is-down c = record { after = grind arith; count = search needs; room = λ h. refl }
 
 pub returns-in-Some : need.returns-in-Some
 unfolding encoding
 returns-in-Some c =
     let e = c .in-Some .ensures tt in
-    record { after = grind (arith, e); room = λ h. press-not-short (c .form-of-form .result) (c .args .mods .0) (c .in-Some .fault) e }
+    record { after = grind (arith, e); count = search needs; room = λ h. press-not-short (c .form-of-form .result) (c .args .mods .0) (c .in-Some .fault) e }
 
 pub returns : need.returns
 unfolding encoding pressed
 returns c =
     let e = c .in-rest .ensures tt in
-    record { after = grind (arith, e); room = λ h. c .deliver .ensures .room (omega (arith, h)) }
+    record { after = grind (arith, e); count = c .deliver .ensures .count; room = λ h. c .deliver .ensures .room (omega (arith, h)) }

@@ -1,0 +1,57 @@
+// What keyline answers to a line of its script.
+ghost use mathlib.Core.Path.{_≡_};
+ghost use Prim.Native.Nat.{_≤_};
+ghost use lib.ListN.{length};
+ghost use Rattle.answers.specs.Answers.{refusedLine, bytesLine, toKey, answerTo};
+ghost use Rattle.writer.specs.Held.{held};
+use encode::encode_plain;
+use keycode::KeyEvent;
+use lines::Request;
+use lines::read_line;
+use writer::Buf;
+use writer::decimal;
+use writer::hex;
+
+// refused, and the number
+fn refused(number: u8) -> Buf
+    ensures { λ r. ⌜ held r ≡ refusedLine number ⌝ }
+{
+    let mut out = Buf::new();
+    out.extend(b"refused\t");
+    decimal(&mut out, number as u32);
+    out.push(b'\n');
+    out
+}
+
+// bytes, and the bytes in hexadecimal
+fn bytes_line(bytes: &[u8]) -> Buf
+    requires { ⌜ length (now bytes) ≤ 16 ⌝ }
+    ensures { λ r. ⌜ held r ≡ bytesLine (now (bytes .entry)) ⌝ }
+{
+    let mut out = Buf::new();
+    out.extend(b"bytes\t");
+    hex(&mut out, bytes);
+    out.push(b'\n');
+    out
+}
+
+// The answer to a press.
+fn press_answer(event: KeyEvent) -> Buf
+    ensures { λ r. ⌜ held r ≡ toKey (event .key) (event .modifiers .0) ⌝ }
+{
+    let mut bytes = [0; 16];
+    match encode_plain(event, &mut bytes) {
+        Ok(n) => bytes_line(&bytes[0..n]),
+        Err(fault) => refused(fault.number()),
+    }
+}
+
+// The answer to a line without its LF: one line, LF included. Every line has one, and none depends on another.
+pub fn answer(line: &[u8]) -> Buf
+    ensures { λ r. ⌜ held r ≡ answerTo (now (line .entry)) ⌝ }
+{
+    match read_line(line) {
+        Ok(Request::Press(event)) => press_answer(event),
+        Err(fault) => refused(fault.number()),
+    }
+}
