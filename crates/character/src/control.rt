@@ -21,7 +21,7 @@ pub fn ctrl_mapping(c: char) -> Option<u8>
 }
 
 // The same of a character's number.
-pub fn ctrl_code(c: u32) -> Option<u8>
+pub(crate) fn ctrl_code(c: u32) -> Option<u8>
     ensures { λ r. ⌜ r ≡ ctrlOf c ⌝ }
 {
     match char::from_u32(c) {
@@ -30,27 +30,27 @@ pub fn ctrl_code(c: u32) -> Option<u8>
     }
 }
 
-pub fn is_lower(c: u32) -> bool
+pub(crate) fn is_lower(c: u32) -> bool
     ensures { λ r. ⌜ r ≡ lower c ⌝ }
 {
     0x61 <= c && c <= 0x7a
 }
 
-pub fn is_upper(c: u32) -> bool
+pub(crate) fn is_upper(c: u32) -> bool
     ensures { λ r. ⌜ r ≡ upper c ⌝ }
 {
     0x41 <= c && c <= 0x5a
 }
 
 // Letters, digits and punctuation of ASCII.
-pub fn is_graphic(c: u32) -> bool
+pub(crate) fn is_graphic(c: u32) -> bool
     ensures { λ r. ⌜ r ≡ graphic c ⌝ }
 {
     0x21 <= c && c <= 0x7e
 }
 
 // Whether SHIFT shows in the character itself: uppercase letters and punctuation.
-pub fn owns_shift(c: u32) -> bool
+pub(crate) fn owns_shift(c: u32) -> bool
     ensures { λ r. ⌜ r ≡ ownsShift c ⌝ }
 {
     match c {
@@ -60,14 +60,14 @@ pub fn owns_shift(c: u32) -> bool
 }
 
 // Characters whose control character is also a key of its own or no character at all.
-pub fn is_ambiguous_ascii_ctrl(c: u32) -> bool
+pub(crate) fn is_ambiguous_ascii_ctrl(c: u32) -> bool
     ensures { λ r. ⌜ r ≡ ambiguous c ⌝ }
 {
     matches!(c, 0x69 | 0x49 | 0x6d | 0x4d | 0x5b | 0x7b | 0x40)
 }
 
 // Keys that level 1 of modifyOtherKeys leaves alone.
-pub fn is_well_known(c: u32) -> bool
+pub(crate) fn is_well_known(c: u32) -> bool
     ensures { λ r. ⌜ r ≡ wellKnown c ⌝ }
 {
     matches!(c, 0x63 | 0x64 | 0x1b | 0x7f | 0x08)

@@ -58,7 +58,7 @@ fn level_route(level: Level, c: u32) -> Route
 }
 
 // How a modified character is sent.
-pub fn route(c: u32, modes: KeyCodeEncodeModes) -> Route
+pub(crate) fn route(c: u32, modes: KeyCodeEncodeModes) -> Route
     ensures { λ r. ⌜ r ≡ routeOf c modes ⌝ }
 {
     if is_csi_u(modes.encoding) && c < 0x80 {
@@ -69,7 +69,7 @@ pub fn route(c: u32, modes: KeyCodeEncodeModes) -> Route
 }
 
 // Whether CTRL with this character is sent as a modified character, whatever its control character.
-pub fn is_claimed(c: u32, modes: KeyCodeEncodeModes) -> bool
+pub(crate) fn is_claimed(c: u32, modes: KeyCodeEncodeModes) -> bool
     ensures { λ r. ⌜ r ≡ claimed c modes ⌝ }
 {
     if is_csi_u(modes.encoding) && is_ambiguous_ascii_ctrl(c) {

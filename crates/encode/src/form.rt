@@ -2,7 +2,7 @@
 
 // The keys by how they are sent: a character, a final letter, a number before `~`, a key of its own, or nothing.
 #[derive(Clone, Copy)]
-pub enum Form {
+pub(crate) enum Form {
     // a character
     Typed(u32),
     // a final letter: cursor keys, Home and End, by SS3 where the cursor keys are in application mode
@@ -38,7 +38,7 @@ pub enum EncodeFault {
 
 // Under which modifiers a key is a plain press.
 #[derive(Clone, Copy)]
-pub enum Plainness {
+pub(crate) enum Plainness {
     // a character, as its own rule says
     Character(u32),
     // a function key

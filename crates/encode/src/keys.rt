@@ -5,7 +5,7 @@ use crate::form::Form;
 use keycode::KeyCode;
 
 // The form of a key.
-pub fn form_of(key: KeyCode) -> Form
+pub(crate) fn form_of(key: KeyCode) -> Form
     ensures { λ r. ⌜ r ≡ formOf key ⌝ }
 {
     match key {

@@ -54,7 +54,7 @@ fn push_lettered(out: &mut Buf, last: u8, mods: Modifiers)
 }
 
 // A key with a final letter: `intro` is the second byte where no modifier is held, `[` or `O`.
-pub fn push_letter_key(out: &mut Buf, intro: u8, last: u8, mods: Modifiers)
+pub(crate) fn push_letter_key(out: &mut Buf, intro: u8, last: u8, mods: Modifiers)
     requires { ⌜ now out .len ≤ 32 ⌝ }
     ensures bytes { λ _. ⌜ held (now (out .exit)) ≡ held (now (out .entry)) ++ letterKey (27 ∷ intro ∷ last ∷ []) last (mods .0) ⌝ }
     ensures len { λ _. ⌜ now (out .exit) .len ≤ now (out .entry) .len + 15 ⌝ }
@@ -79,7 +79,7 @@ fn push_number_parameter(out: &mut Buf, mods: Modifiers)
 }
 
 // A key with a number.
-pub fn push_number_key(out: &mut Buf, number: u8, mods: Modifiers)
+pub(crate) fn push_number_key(out: &mut Buf, number: u8, mods: Modifiers)
     requires { ⌜ now out .len ≤ 32 ⌝ }
     ensures bytes { λ _. ⌜ held (now (out .exit)) ≡ held (now (out .entry)) ++ numberKey number (mods .0) ⌝ }
     ensures len { λ _. ⌜ now (out .exit) .len ≤ now (out .entry) .len + 15 ⌝ }
@@ -91,7 +91,7 @@ pub fn push_number_key(out: &mut Buf, number: u8, mods: Modifiers)
 }
 
 // A function key.
-pub fn push_function_key(out: &mut Buf, n: u8, mods: Modifiers)
+pub(crate) fn push_function_key(out: &mut Buf, n: u8, mods: Modifiers)
     requires room { ⌜ now out .len ≤ 32 ⌝ }
     requires number { ⌜ (1 ≤ n) × (n ≤ 24) ⌝ }
     ensures bytes { λ _. ⌜ held (now (out .exit)) ≡ held (now (out .entry)) ++ functionKey n (mods .0) ⌝ }

@@ -54,7 +54,8 @@ impl Modifiers {
     pub fn remove(self, other: Modifiers) -> Modifiers
         ensures { λ r. ⌜ r .0 ≡ without (self .0) (other .0) ⌝ }
     {
-        Modifiers(self.0 - (self.0 & other.0))
+        let shared = self.0 & other.0;
+        Modifiers(self.0 - shared)
     }
 
     // The set less the seven that name a side: terminals do not send them.
@@ -69,9 +70,12 @@ impl Modifiers {
         ensures value { λ r. ⌜ r ≡ xtermSum (self .0) ⌝ }
         ensures most { λ r. ⌜ r ≤ 7 ⌝ }
     {
-        weight(self.contains(Modifiers::SHIFT), 1)
-            + weight(self.contains(Modifiers::ALT), 2)
-            + weight(self.contains(Modifiers::CTRL), 4)
+        let (shift, alt, ctrl) = (
+            self.contains(Modifiers::SHIFT),
+            self.contains(Modifiers::ALT),
+            self.contains(Modifiers::CTRL),
+        );
+        weight(shift, 1) + weight(alt, 2) + weight(ctrl, 4)
     }
 }
 

@@ -6,6 +6,9 @@ ghost use mathlib.Core.List.{[]};
 ghost use Rattle.keycode.specs.Names.{place, names, nameOf, keyAt, placeNamed, keyNamed};
 use crate::key::KeyCode;
 
+// How many keys there are.
+const COUNT: usize = 90;
+
 // The names, in the order of `KeyCode`: the one table, by which keys are printed and read.
 const NAMES: [&'static str; 90] = [
     "Char",
@@ -312,14 +315,14 @@ pub fn name_of(key: KeyCode) -> &'static str
 pub fn key_at(place: usize) -> Option<KeyCode>
     ensures { λ r. ⌜ r ≡ keyAt place ⌝ }
 {
-    if place < 90 { Some(KEYS[place]) } else { None }
+    if place < COUNT { Some(KEYS[place]) } else { None }
 }
 
 // The place of a name in the table.
 fn place_named(name: &[u8]) -> Option<usize>
     ensures { λ r. ⌜ r ≡ placeNamed (now (name .entry)) ⌝ }
 {
-    for i in 0..90 {
+    for i in 0..COUNT {
         if name_at(i).as_bytes() == name {
             return Some(i);
         }

@@ -7,7 +7,7 @@ ghost use Rattle.lines.specs.Fields.{parted, fieldsOf};
 const TAB: u8 = b'\t';
 
 // The first field, and the text behind its tab, if it has one.
-pub fn cut(text: &[u8]) -> (&[u8], Option<&[u8]>)
+pub(crate) fn cut(text: &[u8]) -> (&[u8], Option<&[u8]>)
     ensures { λ r. ⌜ parted (now (text .entry)) ≡ now (r .0) ∷ fieldsOf (r .1) ⌝ }
 {
     for (i, b) in text.iter().enumerate() {
@@ -19,7 +19,7 @@ pub fn cut(text: &[u8]) -> (&[u8], Option<&[u8]>)
 }
 
 // Whether a field is the word.
-pub fn reads(field: &[u8], word: &str) -> bool
+pub(crate) fn reads(field: &[u8], word: &str) -> bool
     ensures { λ r. ⌜ r ≡ sameBytes (now (field .entry)) (now (word .entry)) ⌝ }
 {
     field == word.as_bytes()

@@ -45,7 +45,7 @@ pub fn mods_text(modifiers: Modifiers) -> &'static str
 }
 
 // The set whose text this is.
-pub fn mods_of(text: &[u8]) -> Option<Modifiers>
+pub(crate) fn mods_of(text: &[u8]) -> Option<Modifiers>
     ensures { λ r. ⌜ r ≡ setOf (now (text .entry)) ⌝ }
 {
     for i in 0..16 {

@@ -48,7 +48,7 @@ fn number(text: &[u8], base: u8, most: u32) -> Option<u32>
 const HEX_DIGITS: usize = 8;
 
 // The number that the text writes in base 16, in at most eight digits.
-pub fn hex_number(text: &[u8]) -> Option<u32>
+pub(crate) fn hex_number(text: &[u8]) -> Option<u32>
     ensures { λ r. ⌜ r ≡ hexNumber (now (text .entry)) ⌝ }
 {
     if text.len() > HEX_DIGITS {
@@ -58,7 +58,7 @@ pub fn hex_number(text: &[u8]) -> Option<u32>
 }
 
 // The number that the text writes in base 10, up to 255.
-pub fn dec_number(text: &[u8]) -> Option<u8>
+pub(crate) fn dec_number(text: &[u8]) -> Option<u8>
     ensures { λ r. ⌜ r ≡ decNumber (now (text .entry)) ⌝ }
 {
     match number(text, 10, 255) {

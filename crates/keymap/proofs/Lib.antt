@@ -1,0 +1,4 @@
+pub mod Siblings
+pub mod Ways
+pub mod Values
+pub mod Entries

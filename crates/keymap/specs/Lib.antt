@@ -1,0 +1,6 @@
+pub mod Stored
+pub mod Finding
+pub mod Room
+pub mod Tree
+pub mod Growth
+pub mod Holding
