@@ -3,9 +3,6 @@ use native.Mathlib.Omega.{arith}
 use Rattle.std.proofs.shelf.Ways.{tells}
 use Rattle.writer.proofs.write.utf8.Needs as need
 
-pub returns-then-c-lt128 : need.returns-then-c-lt128
-returns-then-c-lt128 c = record { bytes = grind (arith, tells); len = omega arith }
-
 pub returns-then-c-lt2048 : need.returns-then-c-lt2048
 returns-then-c-lt2048 c = record { bytes = grind (arith, tells, append-assoc); len = omega arith }
 
