@@ -22,9 +22,9 @@ pub record Told : Type 0 where
 abbrev pub told : ℤ → List ℕ → Told
 told said out = record { said = said; out = out }
 
--- the count of the bytes, as far as C's number goes, or minus the number of the refusal
+-- the count of the bytes, or minus the number of the refusal
 abbrev pub answerOf : Result ℕ EncodeFault → ℤ
-answerOf (Ok count) = pos (min count 2147483647)
+answerOf (Ok count) = pos count
 answerOf (Err fault) = negℤ (pos (number fault))
 
 abbrev pub toldOf : Sent → Told

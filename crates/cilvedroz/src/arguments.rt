@@ -16,7 +16,7 @@ const CHAR: u32 = 0;
 const FUNCTION: u32 = 59;
 
 // The key at a place. A function key over 255 does not exist, nor does 255, which stands for it.
-pub fn key_of(place: u32, number: u32) -> Option<KeyCode>
+pub(crate) fn key_of(place: u32, number: u32) -> Option<KeyCode>
     ensures { λ r. ⌜ r ≡ keyOf place number ⌝ }
 {
     match place {
@@ -27,13 +27,13 @@ pub fn key_of(place: u32, number: u32) -> Option<KeyCode>
 }
 
 // A set over 65,535 is refused, and so is 65,535, which stands for it.
-pub fn modifiers_of(modifiers: u32) -> Modifiers
+pub(crate) fn modifiers_of(modifiers: u32) -> Modifiers
     ensures { λ r. ⌜ r .0 ≡ min modifiers 65535 ⌝ }
 {
     Modifiers(modifiers.min(65535) as u16)
 }
 
-pub fn encoding_of(encoding: u32) -> Option<KeyboardEncoding>
+pub(crate) fn encoding_of(encoding: u32) -> Option<KeyboardEncoding>
     ensures { λ r. ⌜ r ≡ encodingOf encoding ⌝ }
 {
     match encoding {
@@ -51,7 +51,7 @@ fn other_of(given: u32, other: i64) -> Option<i64>
     if given == 0 { None } else { Some(other) }
 }
 
-pub fn modes_of(
+pub(crate) fn modes_of(
     encoding: KeyboardEncoding,
     application_cursor_keys: u32,
     newline_mode: u32,

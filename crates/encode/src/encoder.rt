@@ -205,7 +205,7 @@ fn press_fault(form: Form, mods: Modifiers) -> Option<EncodeFault>
 // Writes the bytes to the front of the output, or refuses and writes nothing.
 fn deliver(bytes: &[u8], out: &mut [u8]) -> Result<usize, EncodeFault>
     ensures after { λ r. ⌜ sent r (now (out .exit)) ≡ delivered (now (bytes .entry)) (now (out .entry)) ⌝ }
-    ensures count { λ r. ⌜ made r (λ n. n ≤ length (now (out .entry))) ⌝ }
+    ensures count { λ r. ⌜ made r (λ n. (n ≤ length (now (bytes .entry))) × (n ≤ length (now (out .entry)))) ⌝ }
     ensures room { λ r. ⌜ (length (now (bytes .entry)) ≤ length (now (out .entry)) → isShort r ≡ false) ⌝ }
 {
     let n = bytes.len();
@@ -226,7 +226,7 @@ pub fn encode(
     out: &mut [u8],
 ) -> Result<usize, EncodeFault>
     ensures after { λ r. ⌜ sent r (now (out .exit)) ≡ encoding key (mods .0) modes «is_down» (now (out .entry)) ⌝ }
-    ensures count { λ r. ⌜ made r (λ n. n ≤ length (now (out .entry))) ⌝ }
+    ensures count { λ r. ⌜ made r (λ n. (n ≤ 15) × (n ≤ length (now (out .entry)))) ⌝ }
     ensures room { λ r. ⌜ (15 ≤ length (now (out .entry)) → isShort r ≡ false) ⌝ }
 {
     if !is_down {

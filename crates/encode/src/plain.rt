@@ -77,7 +77,7 @@ pub fn is_plain(event: KeyEvent) -> bool
 // The bytes of a press in the modes that a terminal starts in: what `encode` gives for the key down.
 pub fn encode_plain(event: KeyEvent, out: &mut [u8]) -> Result<usize, EncodeFault>
     ensures after { λ r. ⌜ sent r (now (out .exit)) ≡ encoding (event .key) (event .modifiers .0) plainModes true (now (out .entry)) ⌝ }
-    ensures count { λ r. ⌜ made r (λ n. n ≤ length (now (out .entry))) ⌝ }
+    ensures count { λ r. ⌜ made r (λ n. (n ≤ 15) × (n ≤ length (now (out .entry)))) ⌝ }
     ensures room { λ r. ⌜ (15 ≤ length (now (out .entry)) → isShort r ≡ false) ⌝ }
 {
     encode(

@@ -20,4 +20,4 @@ pub returns : need.returns
 unfolding encoding pressed
 returns c =
     let e = c .in-rest .ensures tt in
-    record { after = grind (arith, e); count = c .deliver .ensures .count; room = λ h. c .deliver .ensures .room (omega (arith, h)) }
+    record { after = grind (arith, e); count = search needs; room = λ h. c .deliver .ensures .room (omega (arith, h)) }
