@@ -1,2 +1,3 @@
+pub mod Members
 pub mod Modifiers
 pub mod Names

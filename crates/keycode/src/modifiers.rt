@@ -3,6 +3,7 @@ ghost use mathlib.Core.Path.{_≡_};
 ghost use mathlib.Core.Bool.{cond};
 ghost use Prim.Native.Nat.{_≤_};
 ghost use lib.Dec.{eqb};
+ghost use Rattle.keycode.specs.Members.{members};
 ghost use Rattle.keycode.specs.Modifiers.{has, without, unplaced, xtermSum};
 
 // SHIFT, ALT, CTRL and SUPER, and seven that say on which side of the keyboard a modifier is held.
@@ -36,6 +37,25 @@ impl Modifiers {
 
     // The largest set: all eleven.
     pub const ALL: u16 = 2047;
+
+    // The eleven members, in the order of their numbers.
+    pub fn members() -> [Modifiers; 11]
+        ensures { λ r. ⌜ r ≡ members ⌝ }
+    {
+        [
+            Modifiers::SHIFT,
+            Modifiers::ALT,
+            Modifiers::CTRL,
+            Modifiers::SUPER,
+            Modifiers::LEFT_ALT,
+            Modifiers::RIGHT_ALT,
+            Modifiers::LEFT_CTRL,
+            Modifiers::RIGHT_CTRL,
+            Modifiers::LEFT_SHIFT,
+            Modifiers::RIGHT_SHIFT,
+            Modifiers::ENHANCED_KEY,
+        ]
+    }
 
     pub fn is_empty(self) -> bool
         ensures { λ r. ⌜ r ≡ eqb (self .0) 0 ⌝ }

@@ -315,7 +315,11 @@ pub fn name_of(key: KeyCode) -> &'static str
 pub fn key_at(place: usize) -> Option<KeyCode>
     ensures { λ r. ⌜ r ≡ keyAt place ⌝ }
 {
-    if place < COUNT { Some(KEYS[place]) } else { None }
+    if place < COUNT {
+        Some(KEYS[place])
+    } else {
+        None
+    }
 }
 
 // The place of a name in the table.

@@ -1,31 +1,15 @@
 // Runs test vectors: reads presses from standard input, a line each, and prints what encode sends for them.
 // The crate's stdin and stdout were made by `compare/run ORIGINAL_DIR sample CASES ANSWERS`: the answers are those of the
 // original crate, not of this one.
-ghost use mathlib.Core.Path.{_≡_};
-ghost use Prim.Native.Nat.{ℕ};
-ghost use Rattle.encode.specs.Encoding.{number};
 
 mod press;
 
-use encode::EncodeFault;
 use encode::encode;
 use press::Press;
 use press::read_press;
 use std::io;
 use std::io::BufRead;
 use std::io::BufReader;
-
-// The number of a refusal.
-fn number_of(fault: EncodeFault) -> u8
-    ensures { λ r. ⌜ r ≡ number fault ⌝ }
-{
-    match fault {
-        EncodeFault::Modifiers => 7,
-        EncodeFault::NoScalar => 8,
-        EncodeFault::NoFunction => 9,
-        EncodeFault::OutputShort => 10,
-    }
-}
 
 // Prints bytes in hexadecimal.
 fn print_bytes(rt: &LibcRuntime, bytes: &[u8]) -> io::Result<()> {
@@ -42,7 +26,7 @@ fn print_press(rt: &LibcRuntime, press: Press) -> io::Result<()> {
     match encode(press.key, press.mods, press.modes, press.is_down, &mut out) {
         Ok(count) => print_bytes(rt, &out[0..count]),
         Err(fault) => {
-            let number = number_of(fault);
+            let number = fault.number();
             println!(rt, "refused\t{number}")
         }
     }
