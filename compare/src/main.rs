@@ -2,23 +2,26 @@
 
 mod case;
 mod classes;
-#[cfg(feature = "port")]
+#[cfg(any(feature = "port", feature = "map-port"))]
 mod documented;
 #[cfg(feature = "port")]
 mod encode;
+mod generator;
+mod keymap;
 mod original;
 #[cfg(feature = "port")]
 mod port;
-#[cfg(feature = "port")]
+#[cfg(any(feature = "port", feature = "map-port"))]
 mod progress;
 mod sample;
-#[cfg(feature = "port")]
+#[cfg(any(feature = "port", feature = "map-port"))]
 mod tally;
 
 use std::env;
 use std::process::ExitCode;
 
-const USAGE: &str = "usage: compare encode | compare sample CASES ANSWERS";
+const USAGE: &str = "usage: compare encode | compare sample CASES ANSWERS | compare keymap \
+    | compare keymap-sample CASES ANSWERS | compare keymap-bench";
 
 /// Ends with 0 where all is well, 1 at an unnamed difference or a failure, and 2 at bad usage.
 fn main() -> ExitCode {
@@ -27,6 +30,9 @@ fn main() -> ExitCode {
     let done = match words.as_slice() {
         ["encode"] => compare_encode(),
         ["sample", cases, answers] => sample::write(cases, answers).map(|()| true),
+        ["keymap"] => compare_keymap(),
+        ["keymap-sample", cases, answers] => keymap::sample::write(cases, answers).map(|()| true),
+        ["keymap-bench"] => time_keymap(),
         _ => {
             eprintln!("{USAGE}");
             return ExitCode::from(2);
@@ -49,5 +55,32 @@ fn compare_encode() -> Result<bool, String> {
 
 #[cfg(not(feature = "port"))]
 fn compare_encode() -> Result<bool, String> {
-    Err("built without the port: build with `--features port`".to_string())
+    without("port")
+}
+
+#[cfg(feature = "map-port")]
+fn compare_keymap() -> Result<bool, String> {
+    keymap::compare::compare()
+}
+
+#[cfg(not(feature = "map-port"))]
+fn compare_keymap() -> Result<bool, String> {
+    without("map-port")
+}
+
+#[cfg(feature = "map-port")]
+fn time_keymap() -> Result<bool, String> {
+    keymap::bench::time().map(|()| true)
+}
+
+#[cfg(not(feature = "map-port"))]
+fn time_keymap() -> Result<bool, String> {
+    without("map-port")
+}
+
+#[cfg(not(all(feature = "port", feature = "map-port")))]
+fn without(feature: &str) -> Result<bool, String> {
+    Err(format!(
+        "built without the port: build with `--features {feature}`"
+    ))
 }

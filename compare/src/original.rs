@@ -119,19 +119,20 @@ pub fn encode(case: &Case) -> Answer {
         Err(_) => Answer::Error,
     };
     if key == Function(0) {
-        catch_panic(ask)
+        catch_panic(ask).unwrap_or(Answer::Panic)
     } else {
         ask()
     }
 }
 
-/// Asks where a panic is to be expected, and keeps it from being reported on stderr.
-fn catch_panic(ask: impl FnOnce() -> Answer + UnwindSafe) -> Answer {
+/// Asks where a panic is to be expected, and keeps it from being reported on stderr; `None` where
+/// there was one.
+pub fn catch_panic<T>(ask: impl FnOnce() -> T + UnwindSafe) -> Option<T> {
     let hook = panic::take_hook();
     panic::set_hook(Box::new(|_| {}));
     let answer = panic::catch_unwind(ask);
     panic::set_hook(hook);
-    answer.unwrap_or(Answer::Panic)
+    answer.ok()
 }
 
 fn key(case: &Case) -> Option<KeyCode> {

@@ -2,6 +2,7 @@
 
 use crate::case::{Answer, CHAR, CSI_U, Case, FUNCTION, KITTY, WIN32, XTERM};
 use crate::classes::{CLASSES, Expected};
+use crate::generator::Generator;
 use crate::original;
 use std::collections::HashSet;
 use std::fs;
@@ -151,7 +152,7 @@ impl Sample {
         sample.add_modes();
         sample.add_further_modifiers();
         sample.add_key_ups();
-        let mut generator = Generator(1);
+        let mut generator = Generator::new();
         while sample.seen.len() < CASES {
             sample.add(generator.case());
         }
@@ -317,22 +318,7 @@ fn answer_line(bytes: &[u8]) -> String {
     format!("bytes\t{hex}\n")
 }
 
-/// Draws cases, the same at each run.
-struct Generator(u64);
-
 impl Generator {
-    fn below(&mut self, end: u32) -> u32 {
-        self.0 = self
-            .0
-            .wrapping_mul(6_364_136_223_846_793_005)
-            .wrapping_add(1);
-        ((self.0 >> 33) % u64::from(end)) as u32
-    }
-
-    fn one_of<T: Clone>(&mut self, list: &[T]) -> T {
-        list[self.below(list.len() as u32) as usize].clone()
-    }
-
     fn key(&mut self) -> KeyCode {
         match self.below(4) {
             0 => self.one_of(&original::KEYS),

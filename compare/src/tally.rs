@@ -74,6 +74,6 @@ impl Tally {
     }
 }
 
-fn print_row(what: &str, count: u64) {
+pub fn print_row(what: &str, count: u64) {
     println!("{what:36}{count:>12}");
 }

@@ -11,7 +11,7 @@ use Rattle.std.specs.Options.{isSome}
 use Rattle.std.specs.shelf.Text.{sameBytes}
 use Rattle.std.specs.declared.option.Option.{Option}
 use Rattle.std.specs.declared.option.Option.the-variants.{None, Some}
-use Rattle.keymap.specs.Stored.{Entry, Stored, valueOf, someKey, replaced, put}
+use Rattle.keymap.specs.Stored.{Stored, Once, valueOf, someKey, replaced, put}
 
 pub none-is-not-some : {V : Type 0} (o : Option V) (v : V) → o ≡ None → o ≡ Some v → ⊥
 none-is-not-some o v p q = let z : _≡_ {A = ℕ} 0 1 = cc in omega arith
@@ -24,9 +24,6 @@ equal-is-same a b = sameBytes-decides a b .1
 
 pub other-is-not-same : (a b : List ℕ) → (a ≡ b → ⊥) → sameBytes a b ≡ false
 other-is-not-same a b ne = ⊎-elim (λ t. absurd (ne (same-is-equal a b t))) (λ f. f) (cases-bool (sameBytes a b))
-
-is-some : {V : Type 0} (o : Option V) (v : V) → o ≡ Some v → isSome o ≡ true
-is-some o v e = ap isSome e
 
 -- a stored key that passes a test
 pub stored-key-passes : {V : Type 0} (s : Stored V) (test : List ℕ → Bool) (k : List ℕ) (v : V) → valueOf s k ≡ Some v → test k ≡ true → someKey test s ≡ true
@@ -102,6 +99,30 @@ module _ {V : Type 0} (k : List ℕ) (v : V) where
       also : (b : Bool) → test k ≡ b → (b ≡ true → someKey test s ≡ true) → someKey test s ≡ (b || someKey test s)
       also true p f = f refl
       also false p f = refl
+
       by : (o : Option V) → valueOf s k ≡ o → someKey test (cond (isSome o) (replaced k v s) (record { key = k; value = v } ∷ s)) ≡ (test k || someKey test s)
       by (Some x) p = replaced-keeps-keys test s ∙ also (test k) refl (stored-key-passes s test k x p)
       by None p = refl
+
+-- put keeps each key once
+module _ {V : Type 0} (k : List ℕ) (v : V) where
+  replaced-adds-none : (s : Stored V) (j : List ℕ) → valueOf s j ≡ None → valueOf (replaced k v s) j ≡ None
+  unfolding valueOf replaced
+  replaced-adds-none [] j h = refl
+  replaced-adds-none (e ∷ s) j h = by (sameBytes (e .key) j) h (replaced-adds-none s j)
+    where
+      by : (b : Bool) → cond b (Some (e .value)) (valueOf s j) ≡ None → (valueOf s j ≡ None → valueOf (replaced k v s) j ≡ None) → cond b (Some (cond (sameBytes (e .key) k) v (e .value))) (valueOf (replaced k v s) j) ≡ None
+      by true p f = absurd (none-is-not-some (Some (e .value)) (e .value) p refl)
+      by false p f = f p
+
+  replaced-keeps-once : (s : Stored V) → Once s → Once (replaced k v s)
+  unfolding replaced
+  replaced-keeps-once [] o = tt
+  replaced-keeps-once (e ∷ s) o = (replaced-adds-none s (e .key) (o .0), replaced-keeps-once s (o .1))
+
+  pub put-keeps-once : (s : Stored V) → Once s → Once (put k v s)
+  put-keeps-once s o = by (valueOf s k) refl
+    where
+      by : (w : Option V) → valueOf s k ≡ w → Once (cond (isSome w) (replaced k v s) (record { key = k; value = v } ∷ s))
+      by (Some x) p = replaced-keeps-once s o
+      by None p = (p, o)

@@ -2,3 +2,15 @@ pub mod Siblings
 pub mod Ways
 pub mod Values
 pub mod Entries
+pub mod Begins
+pub mod Counts
+pub mod Relations
+pub mod Lookups
+pub mod Finds
+pub mod Looked
+pub mod Links
+pub mod Grows
+pub mod Inserts
+pub mod Held
+pub mod Causes
+pub mod Laws

@@ -1,18 +1,19 @@
 -- The last value on the way of a key. Assumes nothing.
 use mathlib.Core.Path.{_≡_, refl, sym, ap, subst, _∙_}
-use mathlib.Core.List.{List, [], _∷_, _++_, reverse, reverse-append}
-use mathlib.Core.Logic.{_⊎_, inl, inr, ⊎-elim}
-use Prim.Native.Nat.{ℕ, _+_, _-_, _<_, _≤_}
+use mathlib.Core.List.{List, [], _∷_, reverse}
+use mathlib.Core.Logic.{⊎-elim}
+use Prim.Native.Nat.{ℕ, _+_, _<_}
 use native.Mathlib.Omega.{arith}
-use lib.ListN.{length, getD, take}
-use Rattle.std.proofs.shelf.Tests.{cases-eq, cases-lt}
+use lib.ListN.{getD, take}
+use Rattle.std.proofs.shelf.Tests.{cases-lt}
 use Rattle.std.specs.declared.option.Option.{Option}
 use Rattle.std.specs.declared.option.Option.the-variants.{Some, None}
 use Rattle.keymap.specs.declared.node.Node.{Node}
 use Rattle.keymap.specs.declared.trace.Best.{Best}
-use Rattle.keymap.specs.Tree.{blank, lab, val, kid, nxt, Well, At, LastValue, picked}
+use Rattle.keymap.specs.Tree.{blank, val, Well, At, LastValue, picked}
 
 module _ {V : Type 0} (up : ℕ → ℕ) (xs : List (Node V)) (u : ℕ) (w : Well up xs u) where
+  -- a way leads to one node
   pub unique : (k : List ℕ) (i j : ℕ) → At up xs u k i → At up xs u k j → i ≡ j
   unique [] i j a c = a .0 ∙ sym (c .0)
   unique (b ∷ k) i j a c = w .apart i j (a .0) (a .1) (c .0) (c .1) (unique k (up i) (up j) (a .3) (c .3)) (a .2 ∙ sym (c .2))
@@ -31,10 +32,13 @@ module _ {V : Type 0} (up : ℕ → ℕ) (xs : List (Node V)) (u : ℕ) (w : Wel
       λ x j le b. ⊎-elim (λ lt. f x j (omega arith) b)
       (λ ge. let z : x ≡ d + 1 = omega arith in ap (λ (i : ℕ). val xs i) (unique (reverse (take (d + 1) key)) j c (subst (λ (y : ℕ). At up xs u (reverse (take y key)) j) z b) a) ∙ e)
       (cases-lt x (d + 1))
-  keep key d c len (Some v) a e f =
-      (omega (arith, f .0), f .1, λ x j lo le b. ⊎-elim (λ lt. f .2 x j lo (omega arith) b)
-      (λ ge. let z : x ≡ d + 1 = omega arith in ap (λ (i : ℕ). val xs i) (unique (reverse (take (d + 1) key)) j c (subst (λ (y : ℕ). At up xs u (reverse (take y key)) j) z b) a) ∙ e)
-      (cases-lt x (d + 1)))
+  keep key d c len (Some v) a e f = (
+    omega (arith, f .0),
+    f .1,
+    λ x j lo le b. ⊎-elim (λ lt. f .2 x j lo (omega arith) b)
+        (λ ge. let z : x ≡ d + 1 = omega arith in ap (λ (i : ℕ). val xs i) (unique (reverse (take (d + 1) key)) j c (subst (λ (y : ℕ). At up xs u (reverse (take y key)) j) z b) a) ∙ e)
+        (cases-lt x (d + 1)),
+  )
 
   more : (key : List ℕ) (d c : ℕ) (old : Best V) (o : Option V) → At up xs u (reverse (take (d + 1) key)) c → val xs c ≡ o → LastValue up xs u key d (old .len) (old .value) → LastValue up xs u key (d + 1) (picked old o (d + 1) .len) (picked old o (d + 1) .value)
   more key d c old None a e f = keep key d c (old .len) (old .value) a e f

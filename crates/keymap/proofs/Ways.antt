@@ -1,12 +1,12 @@
 -- The way of a key: one node further down, and the child that a label leads to. Assumes nothing.
-use mathlib.Core.Path.{_≡_, refl, sym, ap, subst, _∙_}
-use mathlib.Core.List.{List, [], _∷_, _++_, reverse, reverse-append}
-use Prim.Native.Nat.{ℕ, _+_, _-_, _<_, _≤_}
+use mathlib.Core.Path.{_≡_, sym, ap, subst, _∙_}
+use mathlib.Core.List.{List, [], _∷_, reverse, reverse-append}
+use Prim.Native.Nat.{ℕ, _+_, _<_}
 use native.Mathlib.Omega.{arith}
 use lib.ListN.{length, getD, take}
 use Rattle.std.proofs.shelf.Lists.{take-more}
 use Rattle.keymap.specs.declared.node.Node.{Node}
-use Rattle.keymap.specs.Tree.{blank, lab, val, kid, nxt, Well, Walked, Placed, ChildIs, At, Deepest}
+use Rattle.keymap.specs.Tree.{blank, Well, Placed, ChildIs, At}
 use Rattle.keymap.proofs.Siblings.{only-here}
 
 pub rev-more : (key : List ℕ) (d : ℕ) → d < length key → reverse (take (d + 1) key) ≡ getD key d 0 ∷ reverse (take d key)

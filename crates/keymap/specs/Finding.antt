@@ -1,5 +1,5 @@
 -- What a lookup answers, from what is stored. Assumes nothing.
-use mathlib.Core.Bool.{Bool, true, false, cond, not, _&&_}
+use mathlib.Core.Bool.{Bool, cond, not, _&&_}
 use mathlib.Core.List.{List, [], _∷_}
 use Prim.Native.Nat.{ℕ, zero, suc, _+_, min}
 use lib.Dec.{ltb}
@@ -47,7 +47,7 @@ judged s r more None = NeedData
 judged s r more (Some k) = cond (more && longer s r (k .len)) (Ambiguous (k .len) (k .value)) (Exact (k .len) (k .value))
 
 -- what the stored keys say of r; more says that r may go on
-abbrev pub found : {V : Type 0} → Stored V → List ℕ → Bool → Found V
+unfoldable pub found : {V : Type 0} → Stored V → List ℕ → Bool → Found V
 found s r more = cond (foreign s r) NoKey (judged s r more (longest s r))
 
 -- why a lookup is refused: an empty input where no key is stored
@@ -62,5 +62,5 @@ unless None a = Ok a
 unless (Some fault) a = Err fault
 
 -- the whole answer of a lookup
-abbrev pub looked : {V : Type 0} → Stored V → List ℕ → Bool → Result (Found V) MapFault
+unfoldable pub looked : {V : Type 0} → Stored V → List ℕ → Bool → Result (Found V) MapFault
 looked s r more = unless (lookupCause s r) (found s r more)

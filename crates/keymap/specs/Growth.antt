@@ -5,7 +5,6 @@ use mathlib.Core.Bool.{cond}
 use lib.Dec.{eqb}
 use Prim.Native.Nat.{ℕ, _<_, _≤_}
 use lib.ListN.{length, getD, set}
-use Rattle.std.specs.declared.option.Option.{Option}
 use Rattle.std.specs.declared.option.Option.the-variants.{Some, None}
 use Rattle.keymap.specs.declared.node.Node.{Node}
 use Rattle.keymap.specs.Tree.{blank, lab, val, Well, Deepest, LiveBut}
@@ -26,10 +25,18 @@ with-value n v = record { label = n .label; value = Some v; child = n .child; ne
 abbrev pub newborn : {V : Type 0} → ℕ → ℕ → Node V
 newborn b here = record { label = b; value = None; child = 0; next = here }
 
+-- the nodes with c as the first child of i
+abbrev pub child-set : {V : Type 0} → List (Node V) → ℕ → ℕ → List (Node V)
+child-set xs i c = set xs i (with-child (getD xs i blank) c)
+
+-- the nodes with c as the next sibling of i
+abbrev pub next-set : {V : Type 0} → List (Node V) → ℕ → ℕ → List (Node V)
+next-set xs i c = set xs i (with-next (getD xs i blank) c)
+
 -- the nodes once u has become a child of at, labelled b, between before and here
 abbrev pub linked : {V : Type 0} → List (Node V) → ℕ → ℕ → ℕ → ℕ → ℕ → List (Node V)
 linked xs u at b before here =
-    cond (eqb before 0) (set (set xs u (newborn b here)) at (with-child (getD xs at blank) u)) (set (set xs u (newborn b here)) before (with-next (getD xs before blank) u))
+    cond (eqb before 0) (child-set (set xs u (newborn b here)) at u) (next-set (set xs u (newborn b here)) before u)
 
 -- the first u nodes keep parents, labels and values, those from there to n are new and hold none, and those past n are as they were
 pub record Kept {V : Type 0} (up : ℕ → ℕ) (xs : List (Node V)) (u : ℕ) (up′ : ℕ → ℕ) (ys : List (Node V)) (n : ℕ) : Type 0 where

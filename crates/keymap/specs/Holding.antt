@@ -5,14 +5,13 @@ use Prim.Native.Nat.{ℕ, _+_, _≤_, _<_, min}
 use denote.Ref.{now}
 use lib.ListN.{length, drop}
 use Rattle.std.specs.Results.{Cases}
-use Rattle.std.specs.declared.option.Option.{Option}
 use Rattle.std.specs.declared.option.Option.the-variants.{Some}
 use Rattle.std.specs.declared.result.Result.{Result}
 use Rattle.keymap.specs.declared.found.MapFault.{MapFault}
 use Rattle.keymap.specs.declared.found.MapFault.the-variants.{TooFewNodes}
 use Rattle.keymap.specs.declared.node.KeyMap.{KeyMap}
 use Rattle.keymap.specs.declared.node.Node.{Node}
-use Rattle.keymap.specs.Room.{maxNodes, nodes, need}
+use Rattle.keymap.specs.Room.{maxNodes, nodesOf, need}
 use Rattle.keymap.specs.Stored.{Stored, valueOf, put}
 use Rattle.keymap.specs.Tree.{Well, Has, Live}
 
@@ -21,7 +20,7 @@ pub record HeldBy {V : Type 0} (up : ℕ → ℕ) (xs : List (Node V)) (u : ℕ)
   pub well : Well up xs u
   pub live : Live xs u
   pub limit : u ≤ maxNodes
-  pub size : u ≡ nodes s
+  pub size : u ≡ nodesOf s
   pub there : (k : List ℕ) (v : V) → valueOf s k ≡ Some v → Has up xs u k v
   pub only : (k : List ℕ) (v : V) → Has up xs u k v → valueOf s k ≡ Some v
 
@@ -41,9 +40,9 @@ Holds m s = HeldIn (now (m .nodes)) (m .used) s
 abbrev pub Valid : {V : Type 0} → KeyMap V → Type 0
 Valid {V} m = (s : Stored V) × Holds m s
 
--- an insert of v under k, from s on the first u of xs: n nodes of ys are in use and the others are as they were, or the nodes do not do and all are as they were
+-- an insert of v under k where the nodes xs hold s: n nodes are in use and those past them are as they were, or there are too few and all are as they were
 abbrev pub Inserts : {V : Type 0} → Stored V → List (Node V) → List ℕ → V → List (Node V) → Result ℕ MapFault → Type 0
 Inserts s xs k v ys r =
     Cases r
-    (λ n. (nodes s + need s k ≤ min (length xs) maxNodes) × HeldIn ys n (put k v s) × (drop n ys ≡ drop n xs))
-    (λ fault. (fault ≡ TooFewNodes) × (min (length xs) maxNodes < nodes s + need s k) × (ys ≡ xs))
+    (λ n. (nodesOf s + need s k ≤ min (length xs) maxNodes) × HeldIn ys n (put k v s) × (drop n ys ≡ drop n xs))
+    (λ fault. (fault ≡ TooFewNodes) × (min (length xs) maxNodes < nodesOf s + need s k) × (ys ≡ xs))

@@ -1,5 +1,5 @@
 -- How many nodes what is stored takes, and why an insert is refused. Assumes nothing.
-use mathlib.Core.Bool.{Bool, true, false, cond, _||_}
+use mathlib.Core.Bool.{Bool, false, cond, _||_}
 use mathlib.Core.List.{List, [], _∷_, _++_}
 use Prim.Native.Nat.{ℕ, zero, suc, _+_, _-_, min}
 use lib.Dec.{ltb}
@@ -46,9 +46,9 @@ different [] = 0
 different (p ∷ ps) = cond (listed p ps) 0 1 + different ps
 
 -- the nodes in use: the root, and one for each different beginning of the stored keys but the empty one; none where nothing is stored
-abbrev pub nodes : {V : Type 0} → Stored V → ℕ
-nodes [] = 0
-nodes (e ∷ s) = 1 + different (beginnings (e ∷ s))
+abbrev pub nodesOf : {V : Type 0} → Stored V → ℕ
+nodesOf [] = 0
+nodesOf (e ∷ s) = 1 + different (beginnings (e ∷ s))
 
 -- the root, where nothing is stored yet
 abbrev pub rootNeed : {V : Type 0} → Stored V → ℕ
@@ -60,14 +60,14 @@ unfoldable pub sharedTo : {V : Type 0} → Stored V → List ℕ → ℕ → ℕ
 sharedTo s k zero = 0
 sharedTo s k (suc n) = cond (begun s (take (suc n) k)) (suc n) (sharedTo s k n)
 
--- the nodes that an insert of k needs: one for each byte past its longest beginning that also begins a stored key, and the root
+-- the nodes that an insert of k needs: one for each byte past its longest beginning that also begins a stored key, and the root if it is the first
 abbrev pub need : {V : Type 0} → Stored V → List ℕ → ℕ
 need s k = rootNeed s + (length k - sharedTo s k (length k))
 
 -- why an insert of k is refused, on so many nodes of the caller's
-abbrev pub insertCause : {V : Type 0} → ℕ → Stored V → List ℕ → Option MapFault
+unfoldable pub insertCause : {V : Type 0} → ℕ → Stored V → List ℕ → Option MapFault
 insertCause supplied s k =
-    cond (ltb maxKey (length k)) (Some KeyTooLong) (cond (ltb (min supplied maxNodes) (nodes s + need s k)) (Some TooFewNodes) None)
+    cond (ltb maxKey (length k)) (Some KeyTooLong) (cond (ltb (min supplied maxNodes) (nodesOf s + need s k)) (Some TooFewNodes) None)
 
 -- what is stored after an insert: a refused one changes nothing
 abbrev pub after : {V : Type 0} → Option MapFault → List ℕ → V → Stored V → Stored V

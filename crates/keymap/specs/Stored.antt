@@ -1,4 +1,5 @@
 -- What a map stores: keys, each with its value. Assumes nothing.
+use mathlib.Core.Path.{_≡_}
 use mathlib.Core.Bool.{Bool, true, false, cond, _&&_, _||_}
 use mathlib.Core.List.{List, [], _∷_}
 use Prim.Native.Nat.{ℕ}
@@ -21,6 +22,11 @@ Stored V = List (Entry V)
 unfoldable pub valueOf : {V : Type 0} → Stored V → List ℕ → Option V
 valueOf [] k = None
 valueOf (e ∷ s) k = cond (sameBytes (e .key) k) (Some (e .value)) (valueOf s k)
+
+-- each key is stored once
+abbrev pub Once : {V : Type 0} → Stored V → Type 0
+Once [] = Unit
+Once (e ∷ s) = (valueOf s (e .key) ≡ None) × Once s
 
 -- whether some stored key passes a test
 unfoldable pub someKey : {V : Type 0} → (List ℕ → Bool) → Stored V → Bool

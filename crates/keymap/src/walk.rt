@@ -45,7 +45,11 @@ fn find_child<V: Copy>(nodes: &[Node<V>], used: usize, at: usize, b: u8) -> usiz
     if here == 0 {
         return 0;
     }
-    if read_node(nodes, here).label == b { here } else { 0 }
+    if read_node(nodes, here).label == b {
+        here
+    } else {
+        0
+    }
 }
 
 // The later of two values on a way: `value`, if there is one, `depth` bytes down.
@@ -53,7 +57,10 @@ fn newer<V: Copy>(old: Best<V>, value: Option<V>, depth: usize) -> Best<V>
     ensures { λ r. ⌜ r ≡ picked old value depth ⌝ }
 {
     match value {
-        Some(v) => Best { value: Some(v), len: depth },
+        Some(v) => Best {
+            value: Some(v),
+            len: depth,
+        },
         None => old,
     }
 }
@@ -67,7 +74,10 @@ pub(crate) fn follow<V: Copy>(nodes: &[Node<V>], used: usize, key: &[u8]) -> Tra
 {
     let mut at = 0;
     let mut depth = 0;
-    let mut best = Best { value: read_node(nodes, 0).value, len: 0 };
+    let mut best = Best {
+        value: read_node(nodes, 0).value,
+        len: 0,
+    };
     while depth < key.len() {
         let child = find_child(nodes, used, at, key[depth]);
         if child == 0 {

@@ -1,4 +1,3 @@
-use borrow.Author.Needs.{needs}
 use native.Mathlib.Omega.{arith}
 use Rattle.keymap.proofs.Siblings.{inside}
 use Rattle.keymap.proofs.Ways.{is-none, is-here, is-other}

@@ -1,4 +1,3 @@
-use borrow.Author.Needs.{needs}
 use native.Mathlib.Omega.{arith}
 use mathlib.Core.Path.{refl}
 use Prim.Native.Nat.{ℕ, _<_, _+_}
@@ -25,18 +24,18 @@ loop-depth-holds g c = (omega arith, λ up w. (refl, c .pre .rooted), λ up w. b
 pub loop-depth-again : need.loop-depth-again
 loop-depth-again g c =
     let way : (up : ℕ → ℕ) → Well up (c .args .nodes .now) (c .args .used) → At up (c .args .nodes .now) (c .args .used) (reverse (take (c .loop-depth .depth + 1) (c .args .key .now))) (c .find-child-child .result) =
-        λ up w. one-more up _ _ w (c .args .key .now) (c .loop-depth .depth) _ (c .find-child-child .result) (omega arith) (c .loop-depth .inv .1 up w) (omega arith) (c .find-child-child .ensures up w) in
+    λ up w. one-more up _ _ w (c .args .key .now) (c .loop-depth .depth) _ (c .find-child-child .result) (omega arith) (c .loop-depth .inv .1 up w) (omega arith) (c .find-child-child .ensures up w) in
     (omega arith, way, λ up w. best-more up _ _ w _ _ _ _ _ _ (way up w) (c .read-node-in-loop-depth .ensures) (c .loop-depth .inv .2 up w) (c .newer-best .ensures))
 
 pub returns : need.returns
 returns g c =
     elim (c .loop-depth-test .came) [
-      else-loop-depth-test w ↦ record {
+      | else-loop-depth-test w ↦ record {
         deepest = λ up h. record { short = c .loop-depth .inv .0; way = c .loop-depth .inv .1 up h; ends = λ l. absurd (omega arith) };
-        best = c .loop-depth .inv .2
+        best = c .loop-depth .inv .2;
       }
-    | then-loop-depth-test·then-child-eq0 w ↦ record {
+      | then-loop-depth-test·then-child-eq0 w ↦ record {
         deepest = λ up h. record { short = c .loop-depth .inv .0; way = c .loop-depth .inv .1 up h; ends = λ _. w .find-child-child .ensures up h .none (omega arith) };
-        best = c .loop-depth .inv .2
+        best = c .loop-depth .inv .2;
       }
     ]
