@@ -13,7 +13,8 @@ use Rattle.encode.specs.Encoding.{number as encodeNumber}
 use Rattle.encode.specs.Forms.{formOf}
 use Rattle.encode.specs.Plain.{plainBytes}
 use Rattle.encode.specs.declared.form.EncodeFault.{EncodeFault}
-use Rattle.lines.specs.Requests.{requestOf}
+use Rattle.lines.specs.Requests.{Words, requestIn}
+use Rattle.words.specs.declared.verb.Verb.{Verb}
 use Rattle.lines.specs.Requests.{number as lineNumber}
 use Rattle.lines.specs.declared.request.LineFault.{LineFault}
 use Rattle.lines.specs.declared.request.Request.{Request}
@@ -44,6 +45,6 @@ abbrev pub toRequest : Result Request LineFault → List ℕ
 toRequest (Ok (Press event)) = toKey (event .key) (event .modifiers .0)
 toRequest (Err fault) = refusedLine (lineNumber fault)
 
--- the answer to a line
-abbrev pub answerTo : List ℕ → List ℕ
-answerTo line = toRequest (requestOf line)
+-- the answer to a line, by these verbs and names of keys
+abbrev pub answerIn : Words Verb → Words KeyCode → List ℕ → List ℕ
+answerIn verbs keys line = toRequest (requestIn verbs keys line)

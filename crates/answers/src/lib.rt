@@ -2,12 +2,17 @@
 ghost use mathlib.Core.Path.{_≡_};
 ghost use Prim.Native.Nat.{_≤_};
 ghost use lib.ListN.{length};
-ghost use Rattle.answers.specs.Answers.{refusedLine, bytesLine, toKey, answerTo};
+ghost use Rattle.answers.specs.Answers.{refusedLine, bytesLine, toKey, answerIn};
+ghost use Rattle.keymap.specs.Holding.{Holds, Valid};
+ghost use Rattle.keymap.specs.Stored.{Stored, valueOf};
 ghost use Rattle.writer.specs.Held.{held};
 use encode::encode_plain;
+use keycode::KeyCode;
 use keycode::KeyEvent;
+use keymap::KeyMap;
 use lines::Request;
 use lines::read_line;
+use words::Verb;
 use writer::Buf;
 use writer::decimal;
 use writer::hex;
@@ -46,11 +51,14 @@ fn press_answer(event: KeyEvent) -> Buf
     }
 }
 
-// The answer to a line without its LF: one line, LF included. Every line has one, and none depends on another.
-pub fn answer(line: &[u8]) -> Buf
-    ensures { λ r. ⌜ held r ≡ answerTo (now (line .entry)) ⌝ }
+// The answer to a line without its LF, by the verbs and the names of keys that the maps hold: one line, LF included. Every
+// line has one, and none depends on another.
+pub fn answer(verbs: &KeyMap<Verb>, keys: &KeyMap<KeyCode>, line: &[u8]) -> Buf
+    requires verbs { ⌜ Valid (now verbs) ⌝ }
+    requires keys { ⌜ Valid (now keys) ⌝ }
+    ensures { λ r. ⌜ ((v : Stored Verb) (k : Stored KeyCode) → Holds (now (verbs .entry)) v → Holds (now (keys .entry)) k → held r ≡ answerIn (valueOf v) (valueOf k) (now (line .entry))) ⌝ }
 {
-    match read_line(line) {
+    match read_line(verbs, keys, line) {
         Ok(Request::Press(event)) => press_answer(event),
         Err(fault) => refused(fault.number()),
     }

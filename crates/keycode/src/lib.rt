@@ -10,6 +10,7 @@ pub use modes::KeyCodeEncodeModes;
 pub use modes::KeyboardEncoding;
 pub use modes::KittyKeyboardFlags;
 pub use modifiers::Modifiers;
+pub use names::COUNT;
 pub use names::key_at;
 pub use names::key_named;
 pub use names::name_of;

@@ -7,7 +7,7 @@ ghost use Rattle.keycode.specs.Names.{place, names, nameOf, keyAt, placeNamed,
 use crate::key::KeyCode;
 
 // How many keys there are.
-const COUNT: usize = 90;
+pub const COUNT: usize = 90;
 
 // The names, in the order of `KeyCode`: the one table, by which keys are printed and read.
 const NAMES: [&'static str; 90] = [

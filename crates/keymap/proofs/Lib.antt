@@ -14,3 +14,4 @@ pub mod Inserts
 pub mod Held
 pub mod Causes
 pub mod Laws
+pub mod Fillings

@@ -4,3 +4,4 @@ pub mod Room
 pub mod Tree
 pub mod Growth
 pub mod Holding
+pub mod Filling

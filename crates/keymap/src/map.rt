@@ -63,6 +63,7 @@ impl<'a, V: Copy> KeyMap<'a, V> {
         requires { ⌜ Valid (now self) ⌝ }
         ensures lender { λ r. ⌜ name (now (self .exit) .nodes) ≡ name (now (self .entry) .nodes) ⌝ }
         ensures valid { λ r. ⌜ Valid (now (self .exit)) ⌝ }
+        ensures supplied { λ r. ⌜ length (now (now (self .exit) .nodes)) ≡ length (now (now (self .entry) .nodes)) ⌝ }
         ensures answer { λ r. ⌜ ((s : Stored V) → Holds (now (self .entry)) s → r ≡ unless (insertCause (length (now (now (self .entry) .nodes))) s (now (key .entry))) tt) ⌝ }
         ensures stored { λ r. ⌜ ((s : Stored V) → Holds (now (self .entry)) s → Holds (now (self .exit)) (after (insertCause (length (now (now (self .entry) .nodes))) s (now (key .entry))) (now (key .entry)) value s)) ⌝ }
         ensures refused { λ r. ⌜ (isErr r ≡ true → (now (now (self .exit) .nodes) ≡ now (now (self .entry) .nodes)) × (now (self .exit) .used ≡ now (self .entry) .used)) ⌝ }

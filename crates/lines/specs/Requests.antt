@@ -3,18 +3,20 @@ use mathlib.Core.Bool.{cond}
 use mathlib.Core.List.{List, [], _∷_}
 use Prim.Native.Nat.{ℕ}
 use lib.Chars.{codes}
-use lib.Dec.{leb}
+use lib.Dec.{eqb, leb}
 use lib.ListN.{length}
 use Rattle.std.specs.Options.{mapped, okOr}
 use Rattle.std.specs.shelf.Text.{sameBytes}
 use Rattle.std.specs.declared.option.Option.{Option}
 use Rattle.std.specs.declared.option.Option.the-variants.{None, Some}
 use Rattle.std.specs.declared.result.Result.{Result}
-use Rattle.keycode.specs.Names.{keyNamed}
+use Rattle.keycode.specs.Names.{place}
 use Rattle.keycode.specs.declared.key.KeyCode.{KeyCode}
 use Rattle.keycode.specs.declared.key.KeyCode.the-variants.{Char, Function}
 use Rattle.keycode.specs.declared.key.KeyEvent.{KeyEvent}
 use Rattle.keycode.specs.declared.modifiers.Modifiers.{Modifiers}
+use Rattle.words.specs.declared.verb.Verb.{Verb}
+use Rattle.words.specs.declared.verb.Verb.the-variants.{Press as PressVerb}
 use Rattle.lines.specs.Fields.{parted}
 use Rattle.lines.specs.Mods.{setOf}
 use Rattle.lines.specs.Numbers.{hexNumber, decNumber}
@@ -27,12 +29,20 @@ use Rattle.lines.specs.declared.request.Request.the-variants.{Press}
 abbrev pub number : LineFault → ℕ
 number OtherForm = 11
 
--- a key by its name and its number: of `Char` in base 16, of `Function` in base 10, and `-` where a key holds none
-abbrev pub keyed : List ℕ → List ℕ → Option KeyCode
-keyed name digits =
-    cond (sameBytes name (codes "Char")) (mapped Char (hexNumber digits))
-    (cond (sameBytes name (codes "Function")) (mapped Function (decNumber digits))
-    (cond (sameBytes digits (codes "-")) (keyNamed name) None))
+-- what a word stands for, if it is one
+abbrev pub Words : Type 0 → Type 0
+Words V = List ℕ → Option V
+
+-- a key with its number: of `Char` in base 16, of `Function` in base 10, and `-` where a key holds none
+abbrev pub withNumber : KeyCode → List ℕ → Option KeyCode
+withNumber key digits =
+    cond (eqb (place key) 0) (mapped Char (hexNumber digits))
+    (cond (eqb (place key) 59) (mapped Function (decNumber digits))
+    (cond (sameBytes digits (codes "-")) (Some key) None))
+
+abbrev pub numbered : Option KeyCode → List ℕ → Option KeyCode
+numbered None digits = None
+numbered (Some key) digits = withNumber key digits
 
 -- a key pressed with modifiers
 abbrev pub event : Option KeyCode → Option Modifiers → Option KeyEvent
@@ -41,18 +51,23 @@ event (Some k) None = None
 event (Some k) (Some m) = Some (record { key = k; modifiers = m })
 
 -- a press by its three fields: the key's name, the modifiers, the number
-abbrev pub pressOf : List (List ℕ) → Option KeyEvent
-pressOf [] = None
-pressOf (name ∷ []) = None
-pressOf (name ∷ mods ∷ []) = None
-pressOf (name ∷ mods ∷ digits ∷ []) = event (keyed name digits) (setOf mods)
-pressOf (name ∷ mods ∷ digits ∷ more ∷ fields) = None
+abbrev pub pressOf : Words KeyCode → List (List ℕ) → Option KeyEvent
+pressOf keys [] = None
+pressOf keys (name ∷ []) = None
+pressOf keys (name ∷ mods ∷ []) = None
+pressOf keys (name ∷ mods ∷ digits ∷ []) = event (numbered (keys name) digits) (setOf mods)
+pressOf keys (name ∷ mods ∷ digits ∷ more ∷ fields) = None
+
+-- the request of a verb, with the press that the other fields write
+abbrev pub byVerb : Option Verb → Option KeyEvent → Option Request
+byVerb None press = None
+byVerb (Some PressVerb) press = mapped Press press
 
 -- the first field says which form the others have
-abbrev pub formOf : List (List ℕ) → Option Request
-formOf [] = None
-formOf (verb ∷ fields) = cond (sameBytes verb (codes "press")) (mapped Press (pressOf fields)) None
+abbrev pub formOf : Words Verb → Words KeyCode → List (List ℕ) → Option Request
+formOf verbs keys [] = None
+formOf verbs keys (verb ∷ fields) = byVerb (verbs verb) (pressOf keys fields)
 
--- what a line of at most 8,210 bytes asks for; any other is refused
-abbrev pub requestOf : List ℕ → Result Request LineFault
-requestOf line = okOr (cond (leb (length line) 8210) (formOf (parted line)) None) OtherForm
+-- what a line of at most 8,210 bytes asks for, by these verbs and names; any other is refused
+abbrev pub requestIn : Words Verb → Words KeyCode → List ℕ → Result Request LineFault
+requestIn verbs keys line = okOr (cond (leb (length line) 8210) (formOf verbs keys (parted line)) None) OtherForm

@@ -1,7 +1,9 @@
 // One line, read: its form by its first field, then the other fields.
 ghost use mathlib.Core.Path.{_≡_};
+ghost use Rattle.keymap.specs.Holding.{Holds, Valid};
+ghost use Rattle.keymap.specs.Stored.{Stored, valueOf};
 ghost use Rattle.lines.specs.Fields.{parted};
-ghost use Rattle.lines.specs.Requests.{number, keyed, pressOf, formOf, requestOf};
+ghost use Rattle.lines.specs.Requests.{number, withNumber, pressOf, formOf, requestIn};
 use crate::fields::cut;
 use crate::fields::reads;
 use crate::mods::mods_of;
@@ -11,7 +13,10 @@ use crate::request::LineFault;
 use crate::request::Request;
 use keycode::KeyCode;
 use keycode::KeyEvent;
-use keycode::key_named;
+use keycode::place;
+use keymap::KeyMap;
+use words::Verb;
+use words::word;
 
 // The most bytes of a line, without its LF.
 pub const LONGEST: usize = 8210;
@@ -27,24 +32,21 @@ impl LineFault {
     }
 }
 
-// The key of a name, with the number that its field writes.
-fn keyed(name: &[u8], digits: &[u8]) -> Option<KeyCode>
-    ensures { λ r. ⌜ r ≡ keyed (now (name .entry)) (now (digits .entry)) ⌝ }
+// The key with the number that its field writes.
+fn with_number(key: KeyCode, digits: &[u8]) -> Option<KeyCode>
+    ensures { λ r. ⌜ r ≡ withNumber key (now (digits .entry)) ⌝ }
 {
-    if reads(name, "Char") {
-        Some(KeyCode::Char(hex_number(digits)?))
-    } else if reads(name, "Function") {
-        Some(KeyCode::Function(dec_number(digits)?))
-    } else if reads(digits, "-") {
-        key_named(name)
-    } else {
-        None
+    match place(key) {
+        0 => Some(KeyCode::Char(hex_number(digits)?)),
+        59 => Some(KeyCode::Function(dec_number(digits)?)),
+        _ => { if reads(digits, "-") { Some(key) } else { None } }
     }
 }
 
 // The press of three fields: the key's name, the modifiers, the number.
-fn press(fields: &[u8]) -> Option<KeyEvent>
-    ensures { λ r. ⌜ r ≡ pressOf (parted (now (fields .entry))) ⌝ }
+fn press(keys: &KeyMap<KeyCode>, fields: &[u8]) -> Option<KeyEvent>
+    requires { ⌜ Valid (now keys) ⌝ }
+    ensures { λ r. ⌜ ((s : Stored KeyCode) → Holds (now (keys .entry)) s → r ≡ pressOf (valueOf s) (parted (now (fields .entry)))) ⌝ }
 {
     let (name, rest) = cut(fields);
     let (mods, rest) = cut(rest?);
@@ -53,29 +55,35 @@ fn press(fields: &[u8]) -> Option<KeyEvent>
         return None;
     }
     Some(KeyEvent {
-        key: keyed(name, digits)?,
+        key: with_number(word(keys, name)?, digits)?,
         modifiers: mods_of(mods)?,
     })
 }
 
 // The request of a line of any length.
-fn form(line: &[u8]) -> Option<Request>
-    ensures { λ r. ⌜ r ≡ formOf (parted (now (line .entry))) ⌝ }
+fn form(verbs: &KeyMap<Verb>, keys: &KeyMap<KeyCode>, line: &[u8]) -> Option<Request>
+    requires verbs { ⌜ Valid (now verbs) ⌝ }
+    requires keys { ⌜ Valid (now keys) ⌝ }
+    ensures { λ r. ⌜ ((v : Stored Verb) (k : Stored KeyCode) → Holds (now (verbs .entry)) v → Holds (now (keys .entry)) k → r ≡ formOf (valueOf v) (valueOf k) (parted (now (line .entry)))) ⌝ }
 {
     let (verb, rest) = cut(line);
-    if reads(verb, "press") {
-        Some(Request::Press(press(rest?)?))
-    } else {
-        None
+    match word(verbs, verb)? {
+        Verb::Press => Some(Request::Press(press(keys, rest?)?)),
     }
 }
 
-// The request of a line, without its LF.
-pub fn read_line(line: &[u8]) -> Result<Request, LineFault>
-    ensures { λ r. ⌜ r ≡ requestOf (now (line .entry)) ⌝ }
+// The request of a line, without its LF, by the verbs and the names of keys that the maps hold.
+pub fn read_line(
+    verbs: &KeyMap<Verb>,
+    keys: &KeyMap<KeyCode>,
+    line: &[u8],
+) -> Result<Request, LineFault>
+    requires verbs { ⌜ Valid (now verbs) ⌝ }
+    requires keys { ⌜ Valid (now keys) ⌝ }
+    ensures { λ r. ⌜ ((v : Stored Verb) (k : Stored KeyCode) → Holds (now (verbs .entry)) v → Holds (now (keys .entry)) k → r ≡ requestIn (valueOf v) (valueOf k) (now (line .entry))) ⌝ }
 {
     if line.len() > LONGEST {
         return Err(LineFault::OtherForm);
     }
-    form(line).ok_or(LineFault::OtherForm)
+    form(verbs, keys, line).ok_or(LineFault::OtherForm)
 }

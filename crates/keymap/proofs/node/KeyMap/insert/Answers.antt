@@ -1,6 +1,6 @@
 use mathlib.Core.Path.{_≡_, refl, sym, ap, subst, _∙_}
 use native.Mathlib.Omega.{arith}
-use lib.ListN.{drop}
+use lib.ListN.{length, drop}
 use Rattle.std.proofs.shelf.Results.{err-from-errBy}
 use Rattle.std.proofs.shelf.Tests.{false≢true}
 use Rattle.std.specs.declared.result.Result.the-variants.{Err}
@@ -18,6 +18,7 @@ returns-then-key-gt-MAX-KEY g c =
     record {
       lender = refl;
       valid = c .pre;
+      supplied = refl;
       answer = λ s h. ap (λ o. unless o tt) (sym (too-long _ s key (omega arith)));
       stored = λ s h. subst (λ o. HeldIn xs u (after o key (c .args .value) s)) (sym (too-long _ s key (omega arith))) h;
       refused = λ _. (refl, refl);
@@ -36,6 +37,7 @@ returns-in-Break-self g c =
     rw (p .1, p .2) (record {
       lender = refl;
       valid = (c .pre .0, subst (λ l. HeldIn l u (c .pre .0)) (sym same) (c .pre .1));
+      supplied = ap length same;
       answer = λ s h. ap Err (b s h .0) ∙ ap (λ o. unless o tt) (sym (too-few _ s key (omega arith) (b s h .1)));
       stored = λ s h. subst (λ o. HeldIn ys u (after o key (c .args .value) s)) (sym (too-few _ s key (omega arith) (b s h .1))) (subst (λ l. HeldIn l u s) (sym same) h);
       refused = λ _. (same, refl);
@@ -50,6 +52,7 @@ returns g c =
     record {
       lender = refl;
       valid = (_, m .1);
+      supplied = c .insert-in .kept .nodes;
       answer = λ s h. ap (λ o. unless o tt) (sym (no-cause _ s key (omega arith) (f s h .0)));
       stored = λ s h. subst (λ o. HeldIn (c .insert-in .last .nodes) (c .in-Continue-self .field-0) (after o key (c .args .value) s)) (sym (no-cause _ s key (omega arith) (f s h .0))) (f s h .1);
       refused = λ e. absurd (false≢true e);
