@@ -56,5 +56,4 @@ module _ (bytes out after : List ℕ) (fault : EncodeFault) where
 
 -- a key down is answered by its cause and its bytes
 pub down-is : (key : KeyCode) (m : ℕ) (modes : KeyCodeEncodeModes) (out : List ℕ) → encoding key m modes true out ≡ unless (pressFault (formOf key) m) (pressed key m modes) out
-unfolding encoding
 down-is key m modes out = refl

@@ -74,6 +74,6 @@ unless (Some fault) bytes out = sent (Err fault) out
 unless None bytes out = delivered bytes out
 
 -- what encode answers, and what the output then holds: a key up gives no bytes, before any cause is looked for
-unfoldable pub encoding : KeyCode → ℕ → KeyCodeEncodeModes → Bool → List ℕ → Sent
+abbrev pub encoding : KeyCode → ℕ → KeyCodeEncodeModes → Bool → List ℕ → Sent
 encoding key m modes down out =
     cond down (unless (pressFault (formOf key) m) (pressed key m modes) out) (sent (Ok 0) out)

@@ -6,8 +6,9 @@ ghost use Prim.Native.Nat.{ℕ, _+_, _≤_, _<_};
 ghost use lib.ListN.{length};
 ghost use Rattle.std.specs.Options.{isSome};
 ghost use Rattle.std.specs.Vec.{made};
-ghost use Rattle.encode.specs.Pressed.{backspace, ownCharacter, tabUnder, isOn, tab, byForm};
-ghost use Rattle.encode.specs.Encoding.{number, formFault, pressFault, sent, isShort, delivered, encoding};
+ghost use Rattle.encode.specs.Forms.{formOf};
+ghost use Rattle.encode.specs.Pressed.{backspace, ownCharacter, tabUnder, isOn, tab, byForm, pressed};
+ghost use Rattle.encode.specs.Encoding.{number, formFault, pressFault, sent, isShort, delivered, unless, encoding};
 ghost use Rattle.character.specs.Characters.{scalar};
 ghost use Rattle.writer.specs.Held.{held};
 use crate::form::EncodeFault;
@@ -216,6 +217,26 @@ fn deliver(bytes: &[u8], out: &mut [u8]) -> Result<usize, EncodeFault>
     Ok(n)
 }
 
+// The bytes of a key down, or a refusal.
+fn encode_down(
+    key: KeyCode,
+    mods: Modifiers,
+    modes: KeyCodeEncodeModes,
+    out: &mut [u8],
+) -> Result<usize, EncodeFault>
+    ensures after { λ r. ⌜ sent r (now (out .exit)) ≡ unless (pressFault (formOf key) (mods .0)) (pressed key (mods .0) modes) (now (out .entry)) ⌝ }
+    ensures count { λ r. ⌜ made r (λ n. (n ≤ 15) × (n ≤ length (now (out .entry)))) ⌝ }
+    ensures room { λ r. ⌜ (15 ≤ length (now (out .entry)) → isShort r ≡ false) ⌝ }
+{
+    let form = form_of(key);
+    if let Some(fault) = press_fault(form, mods) {
+        return Err(fault);
+    }
+    let mut bytes = Buf::new();
+    push_press(&mut bytes, form, mods.remove_positional_mods(), modes);
+    deliver(bytes.as_slice(), out)
+}
+
 // The bytes that a terminal sends for a key, to the front of the output, and their count; or a refusal, which leaves the
 // output as it was. Past the count the output stays. A key up sends nothing. No press has more than 15 bytes.
 pub fn encode(
@@ -232,11 +253,5 @@ pub fn encode(
     if !is_down {
         return Ok(0);
     }
-    let form = form_of(key);
-    if let Some(fault) = press_fault(form, mods) {
-        return Err(fault);
-    }
-    let mut bytes = Buf::new();
-    push_press(&mut bytes, form, mods.remove_positional_mods(), modes);
-    deliver(bytes.as_slice(), out)
+    encode_down(key, mods, modes, out)
 }

@@ -3,7 +3,7 @@ use keymap::Found;
 use keymap::MapFault;
 
 // Whether a key was stored.
-pub fn stored(said: Result<(), MapFault>) -> bool {
+pub(crate) fn stored(said: Result<(), MapFault>) -> bool {
     match said {
         Ok(_) => true,
         Err(_) => false,
@@ -11,7 +11,7 @@ pub fn stored(said: Result<(), MapFault>) -> bool {
 }
 
 // Whether a key was refused with this number.
-pub fn refused(said: Result<(), MapFault>, number: u8) -> bool {
+pub(crate) fn refused(said: Result<(), MapFault>, number: u8) -> bool {
     match said {
         Ok(_) => false,
         Err(fault) => fault.number() == number,
@@ -19,7 +19,7 @@ pub fn refused(said: Result<(), MapFault>, number: u8) -> bool {
 }
 
 // Whether the key of so many bytes was found exactly, with this value.
-pub fn exact(said: Result<Found<u8>, MapFault>, len: usize, value: u8) -> bool {
+pub(crate) fn exact(said: Result<Found<u8>, MapFault>, len: usize, value: u8) -> bool {
     match said {
         Ok(Found::Exact(n, v)) => n == len && v == value,
         _ => false,
@@ -27,7 +27,7 @@ pub fn exact(said: Result<Found<u8>, MapFault>, len: usize, value: u8) -> bool {
 }
 
 // Whether the key of so many bytes was found, with this value, and a longer one may follow.
-pub fn ambiguous(said: Result<Found<u8>, MapFault>, len: usize, value: u8) -> bool {
+pub(crate) fn ambiguous(said: Result<Found<u8>, MapFault>, len: usize, value: u8) -> bool {
     match said {
         Ok(Found::Ambiguous(n, v)) => n == len && v == value,
         _ => false,
@@ -35,7 +35,7 @@ pub fn ambiguous(said: Result<Found<u8>, MapFault>, len: usize, value: u8) -> bo
 }
 
 // Whether no stored key starts so.
-pub fn none(said: Result<Found<u8>, MapFault>) -> bool {
+pub(crate) fn none(said: Result<Found<u8>, MapFault>) -> bool {
     match said {
         Ok(Found::None) => true,
         _ => false,
@@ -43,7 +43,7 @@ pub fn none(said: Result<Found<u8>, MapFault>) -> bool {
 }
 
 // Whether more input is wanted.
-pub fn needs_data(said: Result<Found<u8>, MapFault>) -> bool {
+pub(crate) fn needs_data(said: Result<Found<u8>, MapFault>) -> bool {
     match said {
         Ok(Found::NeedData) => true,
         _ => false,

@@ -48,7 +48,7 @@ fn read_flag(text: &str) -> Option<bool> {
 }
 
 // The step of a line, whose key goes to the front of `bytes`.
-pub fn read_step(line: &str, bytes: &mut [u8]) -> Option<Step>
+pub(crate) fn read_step(line: &str, bytes: &mut [u8]) -> Option<Step>
     ensures { λ r. ⌜ Cases r (Unit {0}) (λ s. Fits s (length (now (bytes .exit)))) ⌝ }
 {
     let mut fields = line.split('\t');

@@ -10,7 +10,7 @@ use keycode::Modifiers;
 use keycode::key_named;
 
 #[derive(Clone, Copy)]
-pub struct Press {
+pub(crate) struct Press {
     pub key: KeyCode,
     pub mods: Modifiers,
     pub modes: KeyCodeEncodeModes,
@@ -57,7 +57,7 @@ fn read_other(text: &str) -> Option<Option<i64>> {
 }
 
 // The press of a line, if it has eight fields that can be read.
-pub fn read_press(line: &str) -> Option<Press> {
+pub(crate) fn read_press(line: &str) -> Option<Press> {
     let mut fields = line.split('\t');
     let key = read_number(key_named(fields.next()?.as_bytes())?, fields.next()?)?;
     let mods = Modifiers(fields.next()?.parse::<u16>().ok()?);
