@@ -1,1 +1,2 @@
 mod Presses
+mod Words

@@ -14,6 +14,8 @@ use Rattle.encode.specs.Forms.{formOf}
 use Rattle.encode.specs.Plain.{plainBytes}
 use Rattle.encode.specs.declared.form.EncodeFault.{EncodeFault}
 use Rattle.lines.specs.Requests.{Words, requestIn}
+use Rattle.keymap.specs.Stored.{valueOf}
+use Rattle.words.specs.Words.{verbWords, keyWords}
 use Rattle.words.specs.declared.verb.Verb.{Verb}
 use Rattle.lines.specs.Requests.{number as lineNumber}
 use Rattle.lines.specs.declared.request.LineFault.{LineFault}
@@ -48,3 +50,7 @@ toRequest (Err fault) = refusedLine (lineNumber fault)
 -- the answer to a line, by these verbs and names of keys
 abbrev pub answerIn : Words Verb → Words KeyCode → List ℕ → List ℕ
 answerIn verbs keys line = toRequest (requestIn verbs keys line)
+
+-- the answer to a line, by the verbs and the names of the script language
+abbrev pub answerTo : List ℕ → List ℕ
+answerTo line = answerIn (valueOf verbWords) (valueOf keyWords) line

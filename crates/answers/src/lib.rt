@@ -2,9 +2,11 @@
 ghost use mathlib.Core.Path.{_≡_};
 ghost use Prim.Native.Nat.{_≤_};
 ghost use lib.ListN.{length};
-ghost use Rattle.answers.specs.Answers.{refusedLine, bytesLine, toKey, answerIn};
+ghost use Rattle.answers.specs.Answers.{refusedLine, bytesLine, toKey, answerIn, answerTo};
+ghost use Rattle.keymap.specs.Filling.{HoldsWords};
 ghost use Rattle.keymap.specs.Holding.{Holds, Valid};
 ghost use Rattle.keymap.specs.Stored.{Stored, valueOf};
+ghost use Rattle.words.specs.Words.{verbWords, keyWords};
 ghost use Rattle.writer.specs.Held.{held};
 use encode::encode_plain;
 use keycode::KeyCode;
@@ -51,9 +53,8 @@ fn press_answer(event: KeyEvent) -> Buf
     }
 }
 
-// The answer to a line without its LF, by the verbs and the names of keys that the maps hold: one line, LF included. Every
-// line has one, and none depends on another.
-pub fn answer(verbs: &KeyMap<Verb>, keys: &KeyMap<KeyCode>, line: &[u8]) -> Buf
+// The answer to a line, by the verbs and the names of keys that the maps hold.
+fn reply(verbs: &KeyMap<Verb>, keys: &KeyMap<KeyCode>, line: &[u8]) -> Buf
     requires verbs { ⌜ Valid (now verbs) ⌝ }
     requires keys { ⌜ Valid (now keys) ⌝ }
     ensures { λ r. ⌜ ((v : Stored Verb) (k : Stored KeyCode) → Holds (now (verbs .entry)) v → Holds (now (keys .entry)) k → held r ≡ answerIn (valueOf v) (valueOf k) (now (line .entry))) ⌝ }
@@ -62,4 +63,15 @@ pub fn answer(verbs: &KeyMap<Verb>, keys: &KeyMap<KeyCode>, line: &[u8]) -> Buf
         Ok(Request::Press(event)) => press_answer(event),
         Err(fault) => refused(fault.number()),
     }
+}
+
+// The answer to a line without its LF: one line, LF included. Every line has one, and none depends on another. With the maps
+// that `fill_verbs` and `fill_keys` filled, it is that of the script language; with any others, that of the words they hold.
+pub fn answer(verbs: &KeyMap<Verb>, keys: &KeyMap<KeyCode>, line: &[u8]) -> Buf
+    requires verbs { ⌜ Valid (now verbs) ⌝ }
+    requires keys { ⌜ Valid (now keys) ⌝ }
+    ensures any { λ r. ⌜ ((v : Stored Verb) (k : Stored KeyCode) → Holds (now (verbs .entry)) v → Holds (now (keys .entry)) k → held r ≡ answerIn (valueOf v) (valueOf k) (now (line .entry))) ⌝ }
+    ensures words { λ r. ⌜ (HoldsWords (now (verbs .entry)) verbWords → HoldsWords (now (keys .entry)) keyWords → held r ≡ answerTo (now (line .entry))) ⌝ }
+{
+    reply(verbs, keys, line)
 }

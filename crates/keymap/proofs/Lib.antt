@@ -15,3 +15,4 @@ pub mod Held
 pub mod Causes
 pub mod Laws
 pub mod Fillings
+pub mod Enough

@@ -1,5 +1,6 @@
 -- The rows of the table of names. Assumes nothing.
 use mathlib.Core.Path.{_≡_, refl, sym, ap, _∙_}
+use mathlib.Core.Bool.{true}
 use mathlib.Core.List.{List, [], _∷_, map}
 use Prim.Native.Nat.{ℕ, zero, suc, _+_, _<_}
 use native.Mathlib.Omega.{arith}
@@ -10,8 +11,9 @@ use Rattle.std.specs.Iters.{counting}
 use Rattle.keycode.specs.Names.{keys, names, place, nameOf}
 use Rattle.keycode.specs.declared.key.KeyCode.{KeyCode}
 use Rattle.keycode.specs.declared.key.KeyCode.the-variants.{Char}
-use Rattle.keymap.specs.Stored.{Entry}
-use Rattle.words.specs.Words.{named, keyWord, keyWords}
+use Rattle.keymap.specs.Filling.{short, once}
+use Rattle.keymap.specs.Stored.{Entry, valueOf}
+use Rattle.words.specs.Words.{named, verbWords, keyWord, keyWords}
 
 pub named-at : {V : Type 0} (vs : List V) (ns : List (List ℕ)) (i : ℕ) (v : V) → i < length vs → i < length ns → getD (named vs ns) i (record { key = []; value = v }) ≡ record { key = getD ns i []; value = getD vs i v }
 unfolding named
@@ -52,3 +54,19 @@ module _ (i : ℕ) (h : i < 90) where
   words-more =
       drop-more keyWords i (record { key = []; value = Char 0 }) (omega (arith, words-length))
       ∙ ap (λ (x : Entry KeyCode). x ∷ drop (i + 1) keyWords) (named-at keys names i (Char 0) (omega (arith, keys-length)) (omega (arith, names-length)))
+
+pub verbs-short : short verbWords ≡ true
+unfolding short
+verbs-short = refl
+
+pub verbs-once : once verbWords ≡ true
+unfolding once valueOf
+verbs-once = refl
+
+pub keys-short : short keyWords ≡ true
+unfolding short keys names named
+keys-short = refl
+
+pub keys-once : once keyWords ≡ true
+unfolding once valueOf keys names named
+keys-once = refl
