@@ -1,4 +1,4 @@
--- The plain presses: those that a decoder with the built-in key table reads back from their bytes, in the modes that a
+-- The plain presses: those that a decoder with the built-in key table is to read back from their bytes, in the modes that a
 -- terminal starts in. Assumes nothing.
 use mathlib.Core.Bool.{Bool, false, not, _&&_, _||_}
 use mathlib.Core.List.{List}

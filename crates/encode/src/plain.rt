@@ -1,4 +1,4 @@
-// Plain presses: those that come back as they were when their bytes are decoded.
+// Plain presses: those that are to come back as they were when their bytes are decoded.
 ghost use mathlib.Core.Bool.{true, false};
 ghost use mathlib.Core.Path.{_≡_};
 ghost use Prim.Native.Nat.{_≤_};
