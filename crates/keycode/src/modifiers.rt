@@ -11,8 +11,6 @@ ghost use Rattle.keycode.specs.Modifiers.{has, without, unplaced, xtermSum};
 pub struct Modifiers(pub u16);
 
 impl Modifiers {
-    pub const NONE: Modifiers = Modifiers(0);
-
     pub const SHIFT: Modifiers = Modifiers(1);
 
     pub const ALT: Modifiers = Modifiers(2);
