@@ -1,4 +1,6 @@
 // What keyline answers to a line of its script.
+#![tactic(auto)]
+
 ghost use Rattle.std.specs.Prelude.{◌≡◌, ◌≤◌, length};
 ghost use Rattle.answers.specs.Answers.{refused_line, bytes_line, to_key, answer_in, answer_to};
 ghost use Rattle.filling.specs.Filling.{HoldsWords};

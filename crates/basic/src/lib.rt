@@ -1,4 +1,6 @@
 // The built-in key table in a map, and what is known of it once it is there.
+#![tactic(auto)]
+
 ghost use Rattle.std.specs.Prelude.{◌≡◌, length};
 ghost use Rattle.filling.specs.Filling.{Fills};
 ghost use Rattle.keymap.specs.Holding.{Valid};

@@ -1,4 +1,4 @@
--- What keys and characters share. XTerm Control Sequences: CSI is ESC [, SS3 is ESC O; "PC-Style Function Keys" has the modifier
+-- What keys and characters share. XTerm Control Sequences: CSI is ESC [; "PC-Style Function Keys" has the modifier
 -- parameter, "Alt and Meta Keys" the ESC before a character. Assumes nothing.
 use Rattle.std.specs.Prelude.{ℕ, ◌+◌, cond, List, [], ◌∷◌}
 use Rattle.keycode.specs.Modifiers.{alt, xterm_sum}
@@ -7,10 +7,6 @@ use Rattle.writer.specs.Numbers.{dec}
 -- CSI and what follows it
 abbrev pub csi : List ℕ → List ℕ
 csi rest = 27 ∷ 91 ∷ rest
-
--- SS3 and what follows it
-abbrev pub ss3 : List ℕ → List ℕ
-ss3 rest = 27 ∷ 79 ∷ rest
 
 -- the modifier parameter, as digits
 abbrev pub parameter : ℕ → List ℕ

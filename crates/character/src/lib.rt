@@ -1,4 +1,6 @@
 // The bytes of a character under its modifiers and the terminal's modes.
+#![tactic(auto)]
+
 mod control;
 mod level;
 mod modes;

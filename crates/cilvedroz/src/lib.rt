@@ -1,4 +1,6 @@
 // The C interface: numbers in, bytes and a number out. `include/cilvedroz.h` describes it.
+#![tactic(auto)]
+
 mod answer;
 mod arguments;
 mod interface;

@@ -8,8 +8,8 @@ use Rattle.encode.specs.declared.form.Form.TheVariants.{Typed, Cursor, Applicati
 use Rattle.character.specs.declared.level.Level.{Level}
 use Rattle.character.specs.declared.level.Level.TheVariants.{Off, One, Two, Other}
 use Rattle.encode.specs.Forms.{form_of}
-use Rattle.encode.specs.Sequences.{letter_key, number_key, function_key}
-use Rattle.character.specs.Parts.{csi, ss3, escaped}
+use Rattle.encode.specs.Sequences.{ss3, letter_key, number_key, function_key}
+use Rattle.character.specs.Parts.{csi, escaped}
 use Rattle.character.specs.Typed.{level_of, other_key, typed}
 
 -- Backspace sends DEL; under CTRL it is the modified character 08, under SHIFT the modified character 7F
@@ -49,7 +49,7 @@ cursor final modes = 27 ∷ cond modes.application_cursor_keys 79 91 ∷ final �
 abbrev pub by_form : Form → ℕ → KeyCodeEncodeModes → List ℕ
 by_form (Typed c) m modes = typed c m modes
 by_form (Cursor final) m modes = letter_key (cursor final modes) final m
-by_form (Application final) m modes = letter_key (ss3 (final ∷ [])) final m
+by_form (Application final) m modes = letter_key (ss3 final) final m
 by_form (Keypad final) m modes = letter_key (csi (final ∷ [])) final m
 by_form (Edit number) m modes = number_key number m
 by_form (Numbered n) m modes = function_key n m

@@ -1,9 +1,13 @@
 -- The sequences of cursor, editing and function keys. XTerm Control Sequences, "PC-Style Function Keys" and "VT220-Style
--- Function Keys"; that document has no numbers for Function 21 to 24: 42 to 45 are the original's. Assumes nothing.
+-- Function Keys"; SS3 is ESC O; that document has no numbers for Function 21 to 24: 42 to 45 are the original's. Assumes nothing.
 use Rattle.std.specs.Prelude.{ℕ, ◌+◌, ◌-◌, Bool, cond, not, List, [], ◌∷◌, ◌++◌, ◌==◌, nat_lt, slice_index}
 use Rattle.keycode.specs.Modifiers.{xterm_sum}
-use Rattle.character.specs.Parts.{csi, ss3, parameter}
+use Rattle.character.specs.Parts.{csi, parameter}
 use Rattle.writer.specs.Numbers.{dec}
+
+-- SS3 and a final letter
+abbrev pub ss3 : ℕ → List ℕ
+ss3 final = 27 ∷ 79 ∷ final ∷ []
 
 -- whether a sequence names a modifier: SHIFT, ALT or CTRL is held
 abbrev pub modified : ℕ → Bool
@@ -33,5 +37,5 @@ function_codes = 15 ∷ 17 ∷ 18 ∷ 19 ∷ 20 ∷ 21 ∷ 23 ∷ 24 ∷ 25 ∷ 
 unfoldable pub function_key : ℕ → ℕ → List ℕ
 function_key n m =
     cond (nat_lt n 5)
-    (cond (m == 0) (ss3 ((79 + n) ∷ [])) (lettered (79 + n) m))
+    (cond (m == 0) (ss3 (79 + n)) (lettered (79 + n) m))
     (number_key (slice_index function_codes (n - 5)) m)

@@ -1,4 +1,6 @@
 // The bytes that a terminal sends for a key press.
+#![tactic(auto)]
+
 mod encoder;
 mod form;
 mod keys;

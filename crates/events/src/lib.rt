@@ -1,4 +1,6 @@
 // What a decoder tells and to whom: events, recognisers of reports, sinks, and a queue of events.
+#![tactic(auto)]
+
 mod event;
 mod make;
 mod queue;

@@ -1,4 +1,6 @@
 // Examples of events, recognisers and sinks, as tests, worked out by hand, and a sink over any other.
+#![tactic(auto)]
+
 #[cfg(test)]
 mod answers;
 #[cfg(test)]

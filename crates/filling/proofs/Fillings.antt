@@ -2,7 +2,7 @@
 use Rattle.std.proofs.Common.{◌≡◌, ℕ, List, [], ◌∷◌, ◌++◌, length, Some, None, Ok, Err, Option, Result, sym, refl, ap, ◌∙◌, subst, arith}
 use Rattle.keymap.specs.declared.found.MapFault.{MapFault}
 use Rattle.keymap.specs.declared.node.KeyMap.{KeyMap}
-use Rattle.filling.specs.Filling.{Outcome, onward, filled, Fills, FilledTo}
+use Rattle.filling.specs.Filling.{Outcome, onward, filled, Fills, FillsLeft}
 use Rattle.keymap.specs.Finding.{unless}
 use Rattle.keymap.specs.Holding.{Holds}
 use Rattle.keymap.specs.Room.{insert_cause, after}
@@ -60,14 +60,14 @@ module _ {V : Type 0} where
 
   -- entries part by part: nothing yet, one part more, a refusal, the end
   module _ (start m next : KeyMap V) (es : List (Entry V)) where
-    pub filled_none : FilledTo start start es es
+    pub filled_none : FillsLeft start start es es
     filled_none s h = (s, (h, refl))
 
-    module _ (left xs ys : List (Entry V)) (so : FilledTo start m left es) (parts : left ≡ xs ++ ys) (supplied : length m.nodes.now ≡ length start.nodes.now) where
+    module _ (left xs ys : List (Entry V)) (so : FillsLeft start m left es) (parts : left ≡ xs ++ ys) (supplied : length m.nodes.now ≡ length start.nodes.now) where
       abbrev Part : Result (Unit {0}) MapFault → Stored V → ℕ → Type 0
       Part r cur n = (r ≡ (filled n cur xs).said) × Holds next (filled n cur xs).stored
 
-      pub filled_more : Fills m next (Ok tt) xs → FilledTo start next ys es
+      pub filled_more : Fills m next (Ok tt) xs → FillsLeft start next ys es
       filled_more fills s h =
           let n = length start.nodes.now in
           let was = so s h in
@@ -85,7 +85,7 @@ module _ {V : Type 0} where
           sym (filling_stops n cur xs ys fault f.0) ∙ (sym (ap (filled n cur) parts) ∙ was.1.1) in
           (f.0 ∙ ap (λ (o : Outcome V). o.said) whole, subst (λ (o : Outcome V). Holds next o.stored) whole f.1)
 
-    pub filled_all : (left : List (Entry V)) → FilledTo start m left es → left ≡ [] → Fills start m (Ok tt) es
+    pub filled_all : (left : List (Entry V)) → FillsLeft start m left es → left ≡ [] → Fills start m (Ok tt) es
     unfolding filled
     filled_all left so done s h =
         let n = length start.nodes.now in

@@ -1,4 +1,6 @@
 // Keys put into a map one after the other, up to the first refusal; and the laws of lookups that the layers above use.
+#![tactic(auto)]
+
 ghost use Rattle.std.specs.Prelude.{◌≡◌, [], ◌∷◌, length};
 ghost use Rattle.filling.specs.Filling.{Fills};
 ghost use Rattle.keymap.specs.Holding.{Valid};

@@ -1,4 +1,6 @@
 // Keys, modifiers and modes: what a keyboard says, before any bytes.
+#![tactic(auto)]
+
 mod key;
 mod modes;
 mod modifiers;

@@ -1,4 +1,6 @@
 // Reads a script of key presses from standard input, and answers each line on standard output.
+#![tactic(auto)]
+
 ghost use Rattle.keymap.specs.Holding.{Valid};
 
 use keycode::KeyCode;

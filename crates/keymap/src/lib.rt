@@ -1,4 +1,6 @@
 // A map from byte strings to values: a trie on nodes that the caller supplies.
+#![tactic(auto)]
+
 mod found;
 mod grow;
 mod insert;

@@ -1,4 +1,6 @@
 // Examples of a map, as tests, worked out by hand.
+#![tactic(auto)]
+
 #[cfg(test)]
 mod answers;
 #[cfg(test)]

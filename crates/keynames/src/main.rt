@@ -1,4 +1,6 @@
 // Prints the names that a script may give to keys, one to a line, in the order of `KeyCode`.
+#![tactic(auto)]
+
 use keycode::{key_at, name_of};
 use std::io;
 

@@ -1,4 +1,6 @@
 // Prints the built-in key table in the order of filling, then the entries that later ones replace, and the totals.
+#![tactic(auto)]
+
 ghost use Rattle.keymap.specs.Holding.{Valid};
 
 mod row;

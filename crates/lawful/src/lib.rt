@@ -1,4 +1,6 @@
 // Whether a table of key events is lawful: what a decoder asks of its table.
+#![tactic(auto)]
+
 ghost use Rattle.std.specs.Prelude.{◌≡◌, not, ◌&&◌};
 ghost use Rattle.keymap.specs.Holding.{Holds, Valid};
 ghost use Rattle.keymap.specs.Stored.{Stored};

@@ -1,4 +1,6 @@
 // The lines of a script: one line, read into a request or refused.
+#![tactic(auto)]
+
 mod fields;
 mod mods;
 mod numbers;

@@ -1,4 +1,6 @@
 // A sink that writes each event as a line.
+#![tactic(auto)]
+
 mod line;
 mod number;
 mod output;

@@ -1,6 +1,7 @@
 // Runs test vectors: reads steps on a map from standard input, a line each, and prints what the map answers.
 // The crate's stdin and stdout were made by `compare/run ORIGINAL_DIR keymap-sample CASES ANSWERS`: the answers are those
 // of the original crate, not of this one.
+#![tactic(auto)]
 
 mod step;
 

@@ -95,7 +95,7 @@ pub hex_back : (c : ℕ) → c < 4294967296 → hex_number (hex_num c) ≡ Some 
 hex_back c h = cond-true _ _ _ (le-leb (length (hex_num c)) 8 (hex_short 7 c h)) ∙ numeral_in 16 (lit< tt) (lit≤ tt) c
 
 pub dec_back : (n : ℕ) → n < 256 → dec_number (dec n) ≡ Some n
-dec_back n h = ap (up_to 255) (numeral_in 10 (lit< tt) (lit≤ tt) n) ∙ cond-true _ _ _ (le-leb n 255 (omega arith))
+dec_back n h = ap (λ (text : List ℕ). up_to 255 (numeral 10 text)) (dec_in_base n) ∙ ap (up_to 255) (numeral_in 10 (lit< tt) (lit≤ tt) n) ∙ cond-true _ _ _ (le-leb n 255 (omega arith))
 
 pub hex_tabless : (c : ℕ) → tabless (hex_num c) ≡ true
 hex_tabless c = tabless_in 16 (lit< tt) (lit≤ tt) c

@@ -1,4 +1,6 @@
 // Presses as lines of a script.
+#![tactic(auto)]
+
 ghost use Rattle.std.specs.Prelude.{◌≡◌, Ok};
 ghost use Rattle.events.specs.Told.{key as keyTold};
 ghost use Rattle.keymap.specs.Stored.{value_of};

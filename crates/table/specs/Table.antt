@@ -5,8 +5,8 @@
 use Rattle.std.specs.Prelude.{ℕ, ◌+◌, ◌-◌, Bool, cond, not, ◌||◌, List, [], ◌∷◌, ◌++◌, map, length, take, ◌==◌, bit_or, nat_lt, slice_index}
 use Rattle.std.specs.List.{range_with_len}
 use Rattle.character.specs.Characters.{within}
-use Rattle.character.specs.Parts.{csi, ss3}
-use Rattle.encode.specs.Sequences.{function_codes}
+use Rattle.character.specs.Parts.{csi}
+use Rattle.encode.specs.Sequences.{ss3, function_codes}
 use Rattle.keycode.specs.declared.key.KeyCode.{KeyCode}
 use Rattle.keycode.specs.declared.key.KeyCode.TheVariants.{Char, Function, Backspace, Escape, Tab, Enter, UpArrow, DownArrow, RightArrow, LeftArrow, Home, End, ApplicationUpArrow, ApplicationDownArrow, ApplicationRightArrow, ApplicationLeftArrow, Insert, Delete, PageUp, PageDown, InternalPasteStart, InternalPasteEnd}
 use Rattle.keycode.specs.Presses.{press}
@@ -87,7 +87,7 @@ rxvt_keys = marked UpArrow 97 ∷ marked DownArrow 98 ∷ marked RightArrow 99 �
 
 -- 5. CSI and the letter is the arrow with SHIFT, SS3 and the letter the arrow with CTRL
 abbrev pub rxvt_row : Marked → List (Entry KeyEvent)
-rxvt_row l = entry (csi (l.byte ∷ [])) l.key 1 ∷ entry (ss3 (l.byte ∷ [])) l.key 4 ∷ []
+rxvt_row l = entry (csi (l.byte ∷ [])) l.key 1 ∷ entry (ss3 l.byte) l.key 4 ∷ []
 
 -- the arrows of the application mode: A B C D
 unfoldable pub application_keys : List Marked
@@ -96,7 +96,7 @@ application_keys =
 
 -- 6. SS3 X, SS3 1 X, SS3 1 ; n X
 abbrev pub application_row : Marked → List (Entry KeyEvent)
-application_row l = entry (ss3 (l.byte ∷ [])) l.key 0 ∷ forms 8 (ss3 (49 ∷ [])) l.byte l.key
+application_row l = entry (ss3 l.byte) l.key 0 ∷ forms 8 (ss3 49) l.byte l.key
 
 -- the numbers of Function 1 to 20: 11 to 14, then those of Function 5 to 20
 unfoldable pub numbers : List ℕ

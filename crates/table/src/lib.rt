@@ -1,4 +1,6 @@
 // The built-in key table: what the bytes of a terminal's keys mean, by nine rules, and its filling into a map.
+#![tactic(auto)]
+
 mod fill;
 mod forms;
 mod place;

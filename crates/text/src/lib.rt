@@ -1,4 +1,6 @@
 // UTF-8 from the front of bytes: one character, and whole text with ill-formed parts replaced.
+#![tactic(auto)]
+
 mod kinds;
 mod replace;
 mod utf8;

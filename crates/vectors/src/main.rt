@@ -1,6 +1,7 @@
 // Runs test vectors: reads presses from standard input, a line each, and prints what encode sends for them.
 // The crate's stdin and stdout were made by `compare/run ORIGINAL_DIR sample CASES ANSWERS`: the answers are those of the
 // original crate, not of this one.
+#![tactic(auto)]
 
 mod press;
 

@@ -1,4 +1,6 @@
 // The words of a script, in maps: its verbs, and the names of the keys.
+#![tactic(auto)]
+
 mod fill;
 mod look;
 mod verb;

@@ -3,28 +3,28 @@ use Rattle.std.proofs.Common.{◌≡◌, ℕ, zero, suc, ◌+◌, ◌*◌, ◌/�
 use native.Mathlib.Nat.{pow-zero, div-lt_self}
 use Rattle.std.proofs.lemmas.List.{at_drop_more, at_drop_all}
 use Rattle.std.proofs.lemmas.Bool.{lt-ltb, le-ltb, cases_lt, cond-true}
-use Rattle.writer.specs.Numbers.{digits, in_base, dec, hex_num, hex_digit, hex_of}
+use Rattle.writer.specs.Numbers.{digits, dec, digits_in, in_base, hex_num, hex_digit, hex_of}
 
 module _ (base : ℕ) (big : 1 < base) where
-  one : (k n : ℕ) → n < base → digits base (suc k) n ≡ hex_digit n ∷ []
-  unfolding digits
-  one k n h = ap (λ b. cond b (hex_digit n ∷ []) (digits base k (n / base) ++ (hex_digit (n % base) ∷ []))) (lt-ltb n base h)
+  one : (k n : ℕ) → n < base → digits_in base (suc k) n ≡ hex_digit n ∷ []
+  unfolding digits_in
+  one k n h = ap (λ b. cond b (hex_digit n ∷ []) (digits_in base k (n / base) ++ (hex_digit (n % base) ∷ []))) (lt-ltb n base h)
 
-  more : (k n : ℕ) → base ≤ n → digits base (suc k) n ≡ digits base k (n / base) ++ (hex_digit (n % base) ∷ [])
-  unfolding digits
-  more k n h = ap (λ b. cond b (hex_digit n ∷ []) (digits base k (n / base) ++ (hex_digit (n % base) ∷ []))) (le-ltb n base h)
+  more : (k n : ℕ) → base ≤ n → digits_in base (suc k) n ≡ digits_in base k (n / base) ++ (hex_digit (n % base) ∷ [])
+  unfolding digits_in
+  more k n h = ap (λ b. cond b (hex_digit n ∷ []) (digits_in base k (n / base) ++ (hex_digit (n % base) ∷ []))) (le-ltb n base h)
 
   less : (n : ℕ) → base ≤ n → n / base < n
   less n h = div-lt_self (omega arith) big
 
   -- any two numbers of steps that suffice give the same digits
-  enough : (j k n : ℕ) → n < j → n < k → digits base j n ≡ digits base k n
+  enough : (j k n : ℕ) → n < j → n < k → digits_in base j n ≡ digits_in base k n
   enough zero k n h g = absurd (omega arith)
   enough (suc j) zero n h g = absurd (omega arith)
   enough (suc j) (suc k) n h g =
       by (λ s. enough j k (n / base) (omega (arith, less n s)) (omega (arith, less n s))) (cases_lt n base)
     where
-      by : (base ≤ n → digits base j (n / base) ≡ digits base k (n / base)) → (n < base) ⊎ (base ≤ n) → digits base (suc j) n ≡ digits base (suc k) n
+      by : (base ≤ n → digits_in base j (n / base) ≡ digits_in base k (n / base)) → (n < base) ⊎ (base ≤ n) → digits_in base (suc j) n ≡ digits_in base (suc k) n
       by rest (inl s) = one j n s ∙ sym (one k n s)
       by rest (inr s) = more j n s ∙ (ap (λ (l : List ℕ). l ++ (hex_digit (n % base) ∷ [])) (rest s) ∙ sym (more k n s))
 
@@ -51,6 +51,20 @@ module _ (base : ℕ) (big : 1 < base) where
 
 pub digit_ten : (d : ℕ) → d < 10 → hex_digit d ≡ 48 + d
 digit_ten d h = cond-true _ _ _ (lt-ltb d 10 h)
+
+digits_ten : (k n : ℕ) → digits k n ≡ digits_in 10 k n
+unfolding digits digits_in
+digits_ten zero n = refl
+digits_ten (suc k) n = by (digits_ten k (n / 10)) (cases_lt n 10)
+  where
+    by : digits k (n / 10) ≡ digits_in 10 k (n / 10) → (n < 10) ⊎ (10 ≤ n) → digits (suc k) n ≡ digits_in 10 (suc k) n
+    unfolding digits digits_in
+    by rest (inl s) = ap (λ (d : ℕ). cond (nat_lt n 10) (d ∷ []) []) (sym (digit_ten n s))
+    by rest (inr s) = refl
+
+-- decimal is the base ten
+pub dec_in_base : (n : ℕ) → dec n ≡ in_base 10 n
+dec_in_base n = digits_ten (suc n) n
 
 pub dec_one : (n : ℕ) → n < 10 → dec n ≡ (48 + n) ∷ []
 dec_one n h = base_one 10 (lit< tt) n h ∙ ap (λ (d : ℕ). d ∷ []) (digit_ten n h)

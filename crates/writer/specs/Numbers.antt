@@ -1,22 +1,27 @@
 -- Numbers as text. Assumes nothing.
 use Rattle.std.specs.Prelude.{ℕ, zero, suc, ◌+◌, ◌/◌, ◌%◌, cond, List, [], ◌∷◌, ◌++◌, nat_lt}
 
+-- the decimal digits of a number below 10 ^ k
+unfoldable pub digits : ℕ → ℕ → List ℕ
+digits zero n = []
+digits (suc k) n = cond (nat_lt n 10) ((48 + n) ∷ []) (digits k (n / 10) ++ ((48 + n % 10) ∷ []))
+
+-- a number in decimal, without leading zeros
+abbrev pub dec : ℕ → List ℕ
+dec n = digits (suc n) n
+
 -- an uppercase hexadecimal digit
 abbrev pub hex_digit : ℕ → ℕ
 hex_digit d = cond (nat_lt d 10) (48 + d) (55 + d)
 
 -- the digits, in a base of at most 16, of a number of at most k digits
-unfoldable pub digits : ℕ → ℕ → ℕ → List ℕ
-digits base zero n = []
-digits base (suc k) n = cond (nat_lt n base) (hex_digit n ∷ []) (digits base k (n / base) ++ (hex_digit (n % base) ∷ []))
+unfoldable pub digits_in : ℕ → ℕ → ℕ → List ℕ
+digits_in base zero n = []
+digits_in base (suc k) n = cond (nat_lt n base) (hex_digit n ∷ []) (digits_in base k (n / base) ++ (hex_digit (n % base) ∷ []))
 
 -- a number in a base, without leading zeros
 abbrev pub in_base : ℕ → ℕ → List ℕ
-in_base base n = digits base (suc n) n
-
--- a number in decimal
-abbrev pub dec : ℕ → List ℕ
-dec n = in_base 10 n
+in_base base n = digits_in base (suc n) n
 
 -- a number in hexadecimal
 abbrev pub hex_num : ℕ → List ℕ

@@ -1,4 +1,6 @@
 // A small buffer and the numbers that keys and lines are written with.
+#![tactic(auto)]
+
 mod buf;
 mod write;
 

@@ -1,5 +1,5 @@
 use Rattle.std.proofs.Common.{◌≡◌, length, drop}
-use Rattle.filling.specs.Filling.{FilledTo}
+use Rattle.filling.specs.Filling.{FillsLeft}
 use Rattle.keymap.specs.Holding.{Valid}
 use Rattle.table.specs.Table.{entries_of}
 use Rattle.table.proofs.fill.fill_rule.Given as goal
@@ -10,4 +10,4 @@ invariant-loop-place l =
     (l.map.nodes.ghost_name ≡ l.initial.map.nodes.ghost_name)
     × Valid l.map
     × (length l.map.nodes.now ≡ length l.initial.map.nodes.now)
-    × FilledTo l.initial.map l.map (drop l.place (entries_of l.rule)) (entries_of l.rule)
+    × FillsLeft l.initial.map l.map (drop l.place (entries_of l.rule)) (entries_of l.rule)

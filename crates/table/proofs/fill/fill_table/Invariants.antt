@@ -1,5 +1,5 @@
 use Rattle.std.proofs.Common.{◌≡◌, length, drop}
-use Rattle.filling.specs.Filling.{FilledTo}
+use Rattle.filling.specs.Filling.{FillsLeft}
 use Rattle.keymap.specs.Holding.{Valid}
 use Rattle.table.specs.Table.{each, entries_of, rules, table}
 use Rattle.table.proofs.fill.fill_table.Given as goal
@@ -10,4 +10,4 @@ invariant-loop-i l =
     (l.map.nodes.ghost_name ≡ l.initial.map.nodes.ghost_name)
     × Valid l.map
     × (length l.map.nodes.now ≡ length l.initial.map.nodes.now)
-    × FilledTo l.initial.map l.map (each (drop l.i rules) entries_of) table
+    × FillsLeft l.initial.map l.map (each (drop l.i rules) entries_of) table

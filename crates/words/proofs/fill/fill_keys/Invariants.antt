@@ -1,4 +1,4 @@
-use Rattle.std.proofs.Common.{◌≡◌, length, drop}
+use Rattle.std.proofs.Common.{◌≡◌, length}
 use Rattle.filling.specs.Filling.{FilledTo}
 use Rattle.keymap.specs.Holding.{Valid}
 use Rattle.words.specs.Words.{key_words}
@@ -10,4 +10,4 @@ invariant-loop-place l =
     (l.map.nodes.ghost_name ≡ l.initial.map.nodes.ghost_name)
     × Valid l.map
     × (length l.map.nodes.now ≡ length l.initial.map.nodes.now)
-    × FilledTo l.initial.map l.map (drop l.place key_words) key_words
+    × FilledTo l.initial.map l.map key_words l.place
