@@ -5,7 +5,7 @@ use Rattle.std.proofs.lemmas.Bool.{ne_eqb, le-leb, cases_lt, cond-true}
 use Rattle.std.proofs.lemmas.Bool.Decides.{nat_tests}
 use Rattle.lines.specs.Numbers.{up_to, digit_in, behind, value_from, plain, numeral, hex_number, dec_number}
 use Rattle.writer.specs.Numbers.{in_base, dec, hex_num, hex_digit}
-use Rattle.writer.proofs.Digits.{base_one, base_more, hex_short}
+use Rattle.writer.proofs.Digits.{base_one, base_more, dec_in_base, hex_short}
 use Rattle.press_lines.proofs.Fields.{tabless, tabless_join}
 
 value_push : (base : ℕ) (n : Option ℕ) (ds : List ℕ) (d : ℕ) → value_from base n (ds ++ (d ∷ [])) ≡ behind base (value_from base n ds) (digit_in base d)
@@ -95,10 +95,11 @@ pub hex_back : (c : ℕ) → c < 4294967296 → hex_number (hex_num c) ≡ Some 
 hex_back c h = cond-true _ _ _ (le-leb (length (hex_num c)) 8 (hex_short 7 c h)) ∙ numeral_in 16 (lit< tt) (lit≤ tt) c
 
 pub dec_back : (n : ℕ) → n < 256 → dec_number (dec n) ≡ Some n
-dec_back n h = ap (λ (text : List ℕ). up_to 255 (numeral 10 text)) (dec_in_base n) ∙ ap (up_to 255) (numeral_in 10 (lit< tt) (lit≤ tt) n) ∙ cond-true _ _ _ (le-leb n 255 (omega arith))
+dec_back n h =
+    ap dec_number (dec_in_base n) ∙ (ap (up_to 255) (numeral_in 10 (lit< tt) (lit≤ tt) n) ∙ cond-true _ _ _ (le-leb n 255 (omega arith)))
 
 pub hex_tabless : (c : ℕ) → tabless (hex_num c) ≡ true
 hex_tabless c = tabless_in 16 (lit< tt) (lit≤ tt) c
 
 pub dec_tabless : (n : ℕ) → tabless (dec n) ≡ true
-dec_tabless n = tabless_in 10 (lit< tt) (lit≤ tt) n
+dec_tabless n = ap tabless (dec_in_base n) ∙ tabless_in 10 (lit< tt) (lit≤ tt) n
