@@ -58,7 +58,6 @@ digits_ten zero n = refl
 digits_ten (suc k) n = by (digits_ten k (n / 10)) (cases_lt n 10)
   where
     by : digits k (n / 10) ≡ digits_in 10 k (n / 10) → (n < 10) ⊎ (10 ≤ n) → digits (suc k) n ≡ digits_in 10 (suc k) n
-    unfolding digits digits_in
     by rest (inl s) = ap (λ (d : ℕ). cond (nat_lt n 10) (d ∷ []) []) (sym (digit_ten n s))
     by rest (inr s) = refl
 

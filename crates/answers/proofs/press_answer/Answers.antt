@@ -5,11 +5,11 @@ use Rattle.answers.proofs.press_answer.Goals as goal
 
 pub returns-in-Ok : goal.returns-in-Ok
 returns-in-Ok c =
-    c.bytes-line.ensures
-    ∙ bytes_answer c.args.event.key c.args.event.modifiers.0 _ c.encode-plain.new.out c.in-Ok.n c.in-Ok.ensures.after
+    c.bytes_line.ensures
+    ∙ bytes_answer c.args.event.key c.args.event.modifiers.0 _ c.encode_plain.new.out c.in-Ok.n c.in-Ok.ensures.after
 
 pub returns-in-Err : goal.returns-in-Err
 returns-in-Err c =
     c.refused.ensures
     ∙ (ap refused_line c.number.ensures
-    ∙ refused_answer c.args.event.key c.args.event.modifiers.0 _ c.encode-plain.new.out c.in-Err.fault c.in-Err.ensures.after (c.in-Err.ensures.room (omega arith)))
+    ∙ refused_answer c.args.event.key c.args.event.modifiers.0 _ c.encode_plain.new.out c.in-Err.fault c.in-Err.ensures.after (c.in-Err.ensures.room (omega arith)))

@@ -8,5 +8,5 @@ pub returns : goal.returns
 returns c =
     λ s h.
     c.neither.ensures
-    ∙ (ap (λ (b : Bool). not b && not c.is-exact-escape-lone-escape.result) (c.is-exact-empty-key.ensures ∙ ap some_exact (c.lookup.ensures s h))
-    ∙ (ap (λ (b : Bool). not (some_exact (looked s [] false)) && not b) (c.is-exact-escape-lone-escape.ensures ∙ ap escape_exact (c.lookup-2.ensures s h)) ∙ lookups_decide s))
+    ∙ (ap (λ (b : Bool). not b && not c.is_exact_escape-lone_escape.result) (c.is_exact-empty_key.ensures ∙ ap some_exact (c.lookup.ensures s h))
+    ∙ (ap (λ (b : Bool). not (some_exact (looked s [] false)) && not b) (c.is_exact_escape-lone_escape.ensures ∙ ap escape_exact (c.lookup-2.ensures s h)) ∙ lookups_decide s))

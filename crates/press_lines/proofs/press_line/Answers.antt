@@ -3,24 +3,24 @@ use Rattle.writer.specs.Held.{held}
 use Rattle.press_lines.proofs.Back.{line_length, made_is, request_back}
 use Rattle.press_lines.proofs.press_line.Goals as goal
 
-pub overflow-sub-line : goal.overflow-sub-line
-overflow-sub-line c = omega (arith, line_length c.args.event, ap length (c.as-slice-line.ensures.bytes ∙ c.key-line-whole.ensures.value))
+pub overflow_sub-line : goal.overflow_sub-line
+overflow_sub-line c = omega (arith, line_length c.args.event, ap length (c.as_slice-line.ensures.bytes ∙ c.key_line-whole.ensures.value))
 
-pub slice-bounds-extend-count : goal.slice-bounds-extend-count
-slice-bounds-extend-count c = omega (arith, line_length c.args.event, ap length (c.as-slice-line.ensures.bytes ∙ c.key-line-whole.ensures.value))
+pub slice_bounds-extend-count : goal.slice_bounds-extend-count
+slice_bounds-extend-count c = omega (arith, line_length c.args.event, ap length (c.as_slice-line.ensures.bytes ∙ c.key_line-whole.ensures.value))
 
-pub slice-bounds-extend-start : goal.slice-bounds-extend-start
-slice-bounds-extend-start c = omega (arith, line_length c.args.event, ap length (c.as-slice-line.ensures.bytes ∙ c.key-line-whole.ensures.value))
+pub slice_bounds-extend-start : goal.slice_bounds-extend-start
+slice_bounds-extend-start c = omega (arith, line_length c.args.event, ap length (c.as_slice-line.ensures.bytes ∙ c.key_line-whole.ensures.value))
 
 pub extend-requires-2 : goal.extend-requires-2
-extend-requires-2 c = omega (arith, length-take (length c.as-slice-line.result.now - 1 - 3) (drop 3 c.as-slice-line.result.now))
+extend-requires-2 c = omega (arith, length-take (length c.as_slice-line.result.now - 1 - 3) (drop 3 c.as_slice-line.result.now))
 
 pub returns : goal.returns
 returns c =
-    let line = c.as-slice-line.result.now in
+    let line = c.as_slice-line.result.now in
     let out = c.extend-2.new.self in
-    let same = c.as-slice-line.ensures.bytes ∙ c.key-line-whole.ensures.value in
+    let same = c.as_slice-line.ensures.bytes ∙ c.key_line-whole.ensures.value in
     let start = c.extend.ensures.bytes ∙ ap (λ (l : List ℕ). l ++ codes "press") c.new-out.ensures.bytes in
     let made = c.extend-2.ensures.bytes ∙ ap (λ (l : List ℕ). l ++ take (length line - 1 - 3) (drop 3 line)) start in
     let is = made_is c.args.event line (held out) same made in
-    record { value = is; back = request_back c.args.event (held out) c.key-line-whole.ensures.room is (omega (arith, length-take out.len out.bytes)) }
+    record { value = is; back = request_back c.args.event (held out) c.key_line-whole.ensures.room is (omega (arith, length-take out.len out.bytes)) }

@@ -8,8 +8,8 @@ decimal-requires c = omega (arith, dec_short 6 c.args.c (omega arith))
 pub push-requires : goal.push-requires
 push-requires c = omega (arith, dec_short 6 c.args.c (omega arith))
 
-pub push-parameter-requires : goal.push-parameter-requires
-push-parameter-requires c = omega (arith, dec_short 6 c.args.c (omega arith))
+pub push_parameter-requires : goal.push_parameter-requires
+push_parameter-requires c = omega (arith, dec_short 6 c.args.c (omega arith))
 
 pub push-requires-2 : goal.push-requires-2
 push-requires-2 c = omega (arith, dec_short 6 c.args.c (omega arith))

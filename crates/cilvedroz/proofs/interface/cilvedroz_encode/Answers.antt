@@ -3,25 +3,25 @@ use Rattle.std.proofs.lemmas.Bool.Decides.{nat_tests}
 use Rattle.cilvedroz.specs.Answers.{told_of, answer}
 use Rattle.cilvedroz.proofs.interface.cilvedroz_encode.Goals as goal
 
-pub returns-then-is-down-eq0 : goal.returns-then-is-down-eq0
+pub returns-then-is_down-eq0 : goal.returns-then-is_down-eq0
 unfolding answer
-returns-then-is-down-eq0 c = grind (arith, nat_tests)
+returns-then-is_down-eq0 c = grind (arith, nat_tests)
 
 pub returns-in-default : goal.returns-in-default
 unfolding answer
 returns-in-default c = let k = c.in-default.ensures in grind (arith, nat_tests, k)
 
-pub returns-in-default-encoding-of : goal.returns-in-default-encoding-of
+pub returns-in-default-encoding_of : goal.returns-in-default-encoding_of
 unfolding answer
-returns-in-default-encoding-of c =
+returns-in-default-encoding_of c =
     let k = c.in-Some.ensures in
-    let e = c.in-default-encoding-of.ensures in
+    let e = c.in-default-encoding_of.ensures in
     grind (arith, nat_tests, k, e)
 
 pub returns : goal.returns
 unfolding answer
 returns c =
     let k = c.in-Some.ensures in
-    let e = c.in-Some-encoding-of.ensures in
+    let e = c.in-Some-encoding_of.ensures in
     let s = ap told_of c.encode.ensures.after in
     grind (arith, nat_tests, k, e, s)

@@ -10,4 +10,4 @@ returns-then-n-out c = record { after = grind (arith, nat_tests); count = search
 
 pub returns : goal.returns
 unfolding delivered
-returns c = record { after = grind (arith, nat_tests, c.copy-from-slice.ensures.after, sub-zero); count = search rules; room = λ h. refl }
+returns c = record { after = grind (arith, nat_tests, c.copy_from_slice.ensures.after, sub-zero); count = search rules; room = λ h. refl }

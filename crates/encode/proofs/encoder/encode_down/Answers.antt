@@ -9,7 +9,7 @@ returns-in-Some c =
     record {
       after = grind (arith, e);
       count = search rules;
-      room = λ h. press_not_short c.form-of-form.result c.args.mods.0 c.in-Some.fault e;
+      room = λ h. press_not_short c.form_of-form.result c.args.mods.0 c.in-Some.fault e;
     }
 
 pub returns : goal.returns

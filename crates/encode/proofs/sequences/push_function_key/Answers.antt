@@ -7,10 +7,10 @@ pub returns-then-n-ge5 : goal.returns-then-n-ge5
 unfolding function_key function_codes
 returns-then-n-ge5 c = record { bytes = grind (arith, nat_tests); len = omega arith }
 
-pub returns-then-is-empty : goal.returns-then-is-empty
+pub returns-then-is_empty : goal.returns-then-is_empty
 unfolding function_key
-returns-then-is-empty c = record { bytes = grind (arith, nat_tests); len = omega arith }
+returns-then-is_empty c = record { bytes = grind (arith, nat_tests); len = omega arith }
 
-pub returns-else-is-empty : goal.returns-else-is-empty
+pub returns-else-is_empty : goal.returns-else-is_empty
 unfolding function_key
-returns-else-is-empty c = record { bytes = grind (arith, nat_tests); len = omega arith }
+returns-else-is_empty c = record { bytes = grind (arith, nat_tests); len = omega arith }

@@ -3,10 +3,10 @@ use Rattle.std.proofs.lemmas.Bool.Decides.{nat_tests}
 use Rattle.encode.specs.Sequences.{letter_key}
 use Rattle.encode.proofs.sequences.push_letter_key.Goals as goal
 
-pub returns-then-is-modified : goal.returns-then-is-modified
+pub returns-then-is_modified : goal.returns-then-is_modified
 unfolding letter_key
-returns-then-is-modified c = record { bytes = grind (arith, nat_tests, append_assoc); len = omega arith }
+returns-then-is_modified c = record { bytes = grind (arith, nat_tests, append_assoc); len = omega arith }
 
-pub returns-else-is-modified : goal.returns-else-is-modified
+pub returns-else-is_modified : goal.returns-else-is_modified
 unfolding letter_key
-returns-else-is-modified c = record { bytes = grind (arith, nat_tests, append_assoc); len = omega arith }
+returns-else-is_modified c = record { bytes = grind (arith, nat_tests, append_assoc); len = omega arith }

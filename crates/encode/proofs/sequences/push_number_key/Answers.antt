@@ -6,8 +6,8 @@ use Rattle.encode.proofs.sequences.push_number_key.Goals as goal
 pub decimal-requires : goal.decimal-requires
 decimal-requires c = omega (arith, dec_short 2 c.args.number (omega arith))
 
-pub push-number-parameter-requires : goal.push-number-parameter-requires
-push-number-parameter-requires c = omega (arith, dec_short 2 c.args.number (omega arith))
+pub push_number_parameter-requires : goal.push_number_parameter-requires
+push_number_parameter-requires c = omega (arith, dec_short 2 c.args.number (omega arith))
 
 pub push-requires : goal.push-requires
 push-requires c = omega (arith, dec_short 2 c.args.number (omega arith))

@@ -13,16 +13,16 @@ pub returns-then-eq : goal.returns-then-eq
 returns-then-eq c =
     let lt : c.loop-i.i < length names = omega (arith, names_length) in
     sym
-    (place_more names c.args.name.now c.loop-i.i c.as-bytes.result.now c.eq.result _ lt
-    (c.as-bytes.ensures.value ∙ c.name-at.ensures) (slice_eq-Decides Decides-eqb _ _ _ c.eq.ensures) c.if-eq.true)
+    (place_more names c.args.name.now c.loop-i.i c.as_bytes.result.now c.eq.result _ lt
+    (c.as_bytes.ensures.value ∙ c.name_at.ensures) (slice_eq-Decides Decides-eqb _ _ _ c.eq.ensures) c.if-eq.true)
     ∙ c.loop-i.invariant
 
 pub loop-i-preserved : goal.loop-i-preserved
 loop-i-preserved c =
     let lt : c.loop-i.i < length names = omega (arith, names_length) in
     sym
-    (place_more names c.args.name.now c.loop-i.i c.as-bytes.result.now c.eq.result _ lt
-    (c.as-bytes.ensures.value ∙ c.name-at.ensures) (slice_eq-Decides Decides-eqb _ _ _ c.eq.ensures) c.if-eq.false)
+    (place_more names c.args.name.now c.loop-i.i c.as_bytes.result.now c.eq.result _ lt
+    (c.as_bytes.ensures.value ∙ c.name_at.ensures) (slice_eq-Decides Decides-eqb _ _ _ c.eq.ensures) c.if-eq.false)
     ∙ c.loop-i.invariant
 
 pub returns : goal.returns

@@ -9,13 +9,13 @@ pub returns-then-eq : goal.returns-then-eq
 unfolding mods_texts
 returns-then-eq c =
     ap as_set
-    (sym (place_more mods_texts c.args.text.now c.loop-i.i c.as-bytes.result.now c.eq.result true c.loop-i-test.true (c.as-bytes.ensures.value ∙ c.text-at.ensures) (slice_eq-Decides Decides-eqb _ _ _ c.eq.ensures) c.if-eq.true)
+    (sym (place_more mods_texts c.args.text.now c.loop-i.i c.as_bytes.result.now c.eq.result true c.loop-i-test.true (c.as_bytes.ensures.value ∙ c.text_at.ensures) (slice_eq-Decides Decides-eqb _ _ _ c.eq.ensures) c.if-eq.true)
     ∙ c.loop-i.invariant)
 
 pub loop-i-preserved : goal.loop-i-preserved
 unfolding mods_texts
 loop-i-preserved c =
-    sym (place_more mods_texts c.args.text.now c.loop-i.i c.as-bytes.result.now c.eq.result false c.loop-i-test.true (c.as-bytes.ensures.value ∙ c.text-at.ensures) (slice_eq-Decides Decides-eqb _ _ _ c.eq.ensures) c.if-eq.false)
+    sym (place_more mods_texts c.args.text.now c.loop-i.i c.as_bytes.result.now c.eq.result false c.loop-i-test.true (c.as_bytes.ensures.value ∙ c.text_at.ensures) (slice_eq-Decides Decides-eqb _ _ _ c.eq.ensures) c.if-eq.false)
     ∙ c.loop-i.invariant
 
 pub returns : goal.returns

@@ -7,5 +7,5 @@ pub returns : goal.returns
 returns c =
     let m = c.args.modifiers.0 % 16 in
     let lt : m < 16 = omega arith in
-    let e = c.text-at.ensures ∙ text_at m lt in
+    let e = c.text_at.ensures ∙ text_at m lt in
     record { value = e; back = ap set_of e ∙ read_back m lt }

@@ -4,4 +4,4 @@ use Rattle.linewriter.proofs.line.key_line.Goals as goal
 
 pub returns : goal.returns
 unfolding line_of
-returns c = record { value = grind (arith, append_assoc); len = omega arith; room = c.number-field.ensures.room }
+returns c = record { value = grind (arith, append_assoc); len = omega arith; room = c.number_field.ensures.room }

@@ -3,9 +3,9 @@ use Rattle.linewriter.proofs.Short.{name_short}
 use Rattle.linewriter.proofs.line.name_field.Goals as goal
 
 pub extend-requires : goal.extend-requires
-extend-requires c = omega (arith, name_short c.args.key _ (c.as-bytes.ensures.value ∙ c.name-of.ensures))
+extend-requires c = omega (arith, name_short c.args.key _ (c.as_bytes.ensures.value ∙ c.name_of.ensures))
 
 pub returns : goal.returns
 returns c =
-    let e = c.as-bytes.ensures.value ∙ c.name-of.ensures in
+    let e = c.as_bytes.ensures.value ∙ c.name_of.ensures in
     record { bytes = grind (arith, e, append_assoc); len = omega (arith, name_short c.args.key _ e) }

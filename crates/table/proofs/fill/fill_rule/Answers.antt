@@ -7,25 +7,25 @@ use Rattle.table.specs.Told.{blank}
 use Rattle.table.proofs.Counts.{counted}
 use Rattle.table.proofs.fill.fill_rule.Goals as goal
 
-pub returns-in-err-fill-key : goal.returns-in-err-fill-key
-returns-in-err-fill-key c =
-    let b = c.in-err-fill-key.ensures in
+pub returns-in_err-fill_key : goal.returns-in_err-fill_key
+returns-in_err-fill_key c =
+    let b = c.in_err-fill_key.ensures in
     let i = c.loop-place.place in
     let es = entries_of c.args.rule in
-    let p = err_from_is_err_and c.from-residual.result c.from-residual.ensures.1 in
+    let p = err_from_is_err_and c.from_residual.result c.from_residual.ensures.1 in
     rw (p.1, p.2) (record {
       lender = b.lender ∙ c.loop-place.invariant.0;
       valid = b.valid;
       supplied = b.supplied ∙ c.loop-place.invariant.2;
-      fills = filled_stops c.args.map.now c.loop-place.map c.fill-key.new.map es (drop i es) (get_or es i blank ∷ []) (drop (i + 1) es) c.loop-place.invariant.3 (drop_more es i blank (omega (arith, counted c.args.rule))) c.loop-place.invariant.2 c.in-err-fill-key.field-0.0 b.fills;
+      fills = filled_stops c.args.map.now c.loop-place.map c.fill_key.new.map es (drop i es) (get_or es i blank ∷ []) (drop (i + 1) es) c.loop-place.invariant.3 (drop_more es i blank (omega (arith, counted c.args.rule))) c.loop-place.invariant.2 c.in_err-fill_key.field-0.0 b.fills;
     })
 
 pub loop-place-preserved : goal.loop-place-preserved
 loop-place-preserved c =
-    let b = c.in-ok-fill-key.ensures in
+    let b = c.in_ok-fill_key.ensures in
     let i = c.loop-place.place in
     let es = entries_of c.args.rule in
-    (b.lender ∙ c.loop-place.invariant.0, b.valid, b.supplied ∙ c.loop-place.invariant.2, filled_more c.args.map.now c.loop-place.map c.fill-key.new.map es (drop i es) (get_or es i blank ∷ []) (drop (i + 1) es) c.loop-place.invariant.3 (drop_more es i blank (omega (arith, counted c.args.rule))) c.loop-place.invariant.2 b.fills)
+    (b.lender ∙ c.loop-place.invariant.0, b.valid, b.supplied ∙ c.loop-place.invariant.2, filled_more c.args.map.now c.loop-place.map c.fill_key.new.map es (drop i es) (get_or es i blank ∷ []) (drop (i + 1) es) c.loop-place.invariant.3 (drop_more es i blank (omega (arith, counted c.args.rule))) c.loop-place.invariant.2 b.fills)
 
 pub returns : goal.returns
 returns c =

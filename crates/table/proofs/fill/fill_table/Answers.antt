@@ -9,27 +9,27 @@ use Rattle.table.proofs.Counts.{nine_rules}
 use Rattle.table.proofs.Each.{each_more, each_all}
 use Rattle.table.proofs.fill.fill_table.Goals as goal
 
-pub returns-in-err-fill-rule : goal.returns-in-err-fill-rule
-returns-in-err-fill-rule c =
-    let b = c.in-err-fill-rule.ensures in
-    let f : Fills c.loop-i.map c.fill-rule.new.map (Err c.in-err-fill-rule.field-0.0) (entries_of (get_or rules c.loop-i.i Letters)) =
-    subst (λ (rule : Rule). Fills c.loop-i.map c.fill-rule.new.map (Err c.in-err-fill-rule.field-0.0) (entries_of rule)) c.rule-at.ensures b.fills in
+pub returns-in_err-fill_rule : goal.returns-in_err-fill_rule
+returns-in_err-fill_rule c =
+    let b = c.in_err-fill_rule.ensures in
+    let f : Fills c.loop-i.map c.fill_rule.new.map (Err c.in_err-fill_rule.field-0.0) (entries_of (get_or rules c.loop-i.i Letters)) =
+    subst (λ (rule : Rule). Fills c.loop-i.map c.fill_rule.new.map (Err c.in_err-fill_rule.field-0.0) (entries_of rule)) c.rule_at.ensures b.fills in
     let i = c.loop-i.i in
-    let p = err_from_is_err_and c.from-residual.result c.from-residual.ensures.1 in
+    let p = err_from_is_err_and c.from_residual.result c.from_residual.ensures.1 in
     rw (p.1, p.2) (record {
       lender = b.lender ∙ c.loop-i.invariant.0;
       valid = b.valid;
       supplied = b.supplied ∙ c.loop-i.invariant.2;
-      fills = filled_stops c.args.map.now c.loop-i.map c.fill-rule.new.map table (each (drop i rules) entries_of) (entries_of (get_or rules i Letters)) (each (drop (i + 1) rules) entries_of) c.loop-i.invariant.3 (each_more entries_of rules i Letters (omega (arith, nine_rules))) c.loop-i.invariant.2 c.in-err-fill-rule.field-0.0 f;
+      fills = filled_stops c.args.map.now c.loop-i.map c.fill_rule.new.map table (each (drop i rules) entries_of) (entries_of (get_or rules i Letters)) (each (drop (i + 1) rules) entries_of) c.loop-i.invariant.3 (each_more entries_of rules i Letters (omega (arith, nine_rules))) c.loop-i.invariant.2 c.in_err-fill_rule.field-0.0 f;
     })
 
 pub loop-i-preserved : goal.loop-i-preserved
 loop-i-preserved c =
-    let b = c.in-ok-fill-rule.ensures in
-    let f : Fills c.loop-i.map c.fill-rule.new.map (Ok tt) (entries_of (get_or rules c.loop-i.i Letters)) =
-    subst (λ (rule : Rule). Fills c.loop-i.map c.fill-rule.new.map (Ok tt) (entries_of rule)) c.rule-at.ensures b.fills in
+    let b = c.in_ok-fill_rule.ensures in
+    let f : Fills c.loop-i.map c.fill_rule.new.map (Ok tt) (entries_of (get_or rules c.loop-i.i Letters)) =
+    subst (λ (rule : Rule). Fills c.loop-i.map c.fill_rule.new.map (Ok tt) (entries_of rule)) c.rule_at.ensures b.fills in
     let i = c.loop-i.i in
-    (b.lender ∙ c.loop-i.invariant.0, b.valid, b.supplied ∙ c.loop-i.invariant.2, filled_more c.args.map.now c.loop-i.map c.fill-rule.new.map table (each (drop i rules) entries_of) (entries_of (get_or rules i Letters)) (each (drop (i + 1) rules) entries_of) c.loop-i.invariant.3 (each_more entries_of rules i Letters (omega (arith, nine_rules))) c.loop-i.invariant.2 f)
+    (b.lender ∙ c.loop-i.invariant.0, b.valid, b.supplied ∙ c.loop-i.invariant.2, filled_more c.args.map.now c.loop-i.map c.fill_rule.new.map table (each (drop i rules) entries_of) (entries_of (get_or rules i Letters)) (each (drop (i + 1) rules) entries_of) c.loop-i.invariant.3 (each_more entries_of rules i Letters (omega (arith, nine_rules))) c.loop-i.invariant.2 f)
 
 pub returns : goal.returns
 returns c =

@@ -8,7 +8,7 @@ use Rattle.table.proofs.rows.cursor_key.Goals as goal
 pub returns-then-form-eq0 : goal.returns-then-form-eq0
 returns-then-form-eq0 c =
     let z : 0 ≡ c.args.form = omega arith in
-    c.letter-alone.ensures ∙ ap (λ (n : ℕ). get_or (cursor_row c.args.l) n blank) z
+    c.letter_alone.ensures ∙ ap (λ (n : ℕ). get_or (cursor_row c.args.l) n blank) z
 
 pub returns-else-form-eq0 : goal.returns-else-form-eq0
 returns-else-form-eq0 c =

@@ -11,5 +11,5 @@ pub returns : goal.returns
 returns c =
     let k = c.args.k in
     c.numbered.ensures
-    ∙ (ap (λ (x : ℕ). form (csi (dec x)) 126 (Function k) c.args.n) c.number-of.ensures
+    ∙ (ap (λ (x : ℕ). form (csi (dec x)) 126 (Function k) c.args.n) c.number_of.ensures
     ∙ sym (in_forms (form (csi (dec (get_or numbers (k - 1) 0))) 126 (Function k)) 0 17 c.args.n c.args.n blank refl (omega arith) (omega arith)))

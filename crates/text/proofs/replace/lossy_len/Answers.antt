@@ -9,8 +9,8 @@ returns-then-shown-most c =
     let s = step c.args.text.now c.loop-at.at p.result.0 p.result.1.now (omega arith) p.ensures.count p.ensures.bytes in
     grind (arith, nat_tests, s.longer)
 
-pub overflow-add-at : goal.overflow-add-at
-overflow-add-at c =
+pub overflow_add-at : goal.overflow_add-at
+overflow_add-at c =
     let p = c.piece-count in
     let s = step c.args.text.now c.loop-at.at p.result.0 p.result.1.now (omega arith) p.ensures.count p.ensures.bytes in
     omega (arith, s.within)

@@ -3,14 +3,14 @@ use Rattle.text.specs.Lossy.{lossy_of}
 use Rattle.text.proofs.Lossies.{Written, step, lossy_none, written_room, written_more, written_all}
 use Rattle.text.proofs.replace.write_lossy.Goals as goal
 
-pub write-part-requires : goal.write-part-requires
-write-part-requires c =
+pub write_part-requires : goal.write_part-requires
+write_part-requires c =
     let p = c.piece-count in
     let s = step c.args.text.now c.loop-at.at p.result.0 p.result.1.now (omega arith) p.ensures.count p.ensures.bytes in
     written_room _ _ _ _ _ _ _ c.loop-at.invariant.0 s.more (omega arith)
 
-pub overflow-add-at : goal.overflow-add-at
-overflow-add-at c =
+pub overflow_add-at : goal.overflow_add-at
+overflow_add-at c =
     let p = c.piece-count in
     let s = step c.args.text.now c.loop-at.at p.result.0 p.result.1.now (omega arith) p.ensures.count p.ensures.bytes in
     omega (arith, s.within)
@@ -25,7 +25,7 @@ pub loop-at-preserved : goal.loop-at-preserved
 loop-at-preserved c =
     let p = c.piece-count in
     let s = step c.args.text.now c.loop-at.at p.result.0 p.result.1.now (omega arith) p.ensures.count p.ensures.bytes in
-    (written_more _ _ _ _ _ _ _ _ c.loop-at.invariant.0 s.more (omega arith) c.write-part.ensures, s.within)
+    (written_more _ _ _ _ _ _ _ _ c.loop-at.invariant.0 s.more (omega arith) c.write_part.ensures, s.within)
 
 pub returns : goal.returns
 returns c =

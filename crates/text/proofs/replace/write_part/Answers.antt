@@ -6,5 +6,5 @@ use Rattle.text.proofs.replace.write_part.Goals as goal
 pub returns : goal.returns
 returns c =
     let part = c.args.part.now in
-    put_mid-paste c.args.at _ c.args.out.now _ part (length part) c.copy-from-slice.ensures.after (omega arith) refl
+    put_mid-paste c.args.at _ c.args.out.now _ part (length part) c.copy_from_slice.ensures.after (omega arith) refl
     ∙ paste_all c.args.out.now c.args.at part (length part) refl

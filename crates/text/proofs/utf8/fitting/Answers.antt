@@ -9,8 +9,8 @@ returns-then-n-row c =
     let e = fit_row_ends row.more (row.low to row.high) c.args.bytes.now c.loop-n.n (omega arith) in
     record { value = sym e ∙ c.loop-n.invariant.1; count = omega arith }
 
-pub returns-then-not-may-stand : goal.returns-then-not-may-stand
-returns-then-not-may-stand c =
+pub returns-then-not-may_stand : goal.returns-then-not-may_stand
+returns-then-not-may_stand c =
     let row = c.args.row in
     let m = fit_more row.more (row.low to row.high) c.args.bytes.now c.loop-n.n (omega arith) (omega arith) in
     record { value = grind (arith, m); count = omega arith }

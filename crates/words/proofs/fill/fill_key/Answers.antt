@@ -12,7 +12,7 @@ pub returns-in-Some : goal.returns-in-Some
 returns-in-Some c =
     let k = c.in-Some.ensures in
     let key : c.in-Some.key ≡ get_or keys c.args.place (Char 0) = grind (arith, nat_tests, k) in
-    let word = word_at c.args.place c.requires.place c.in-Some.key c.as-bytes.result.now key (c.as-bytes.ensures.value ∙ c.name-of.ensures) in
+    let word = word_at c.args.place c.requires.place c.in-Some.key c.as_bytes.result.now key (c.as_bytes.ensures.value ∙ c.name_of.ensures) in
     record {
       lender = c.put.ensures.lender;
       valid = c.put.ensures.valid;
