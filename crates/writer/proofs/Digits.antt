@@ -2,7 +2,7 @@
 use Rattle.std.proofs.Common.{◌≡◌, ℕ, zero, suc, ◌+◌, ◌*◌, ◌/◌, ◌%◌, ◌^◌, ◌<◌, ◌≤◌, cond, ◌⊎◌, List, [], ◌∷◌, ◌++◌, length, get_or, drop, sym, refl, ap, ◌∙◌, inl, inr, div-lt_iff_lt-mul, pow-suc, arith, lit<, length-append}
 use native.Mathlib.Nat.{pow-zero, div-lt_self}
 use Rattle.std.proofs.lemmas.List.{at_drop_more, at_drop_all}
-use Rattle.std.proofs.lemmas.Bool.{lt-ltb, le-ltb, cases_lt, cond-true}
+use Rattle.std.proofs.lemmas.Bool.{lt-ltb, le-ltb, cases_lt, cond-true, cond-false}
 use Rattle.writer.specs.Numbers.{digits, dec, digits_in, in_base, hex_num, hex_digit, hex_of}
 
 module _ (base : ℕ) (big : 1 < base) where
@@ -58,24 +58,32 @@ digits_ten zero n = refl
 digits_ten (suc k) n = by (digits_ten k (n / 10)) (cases_lt n 10)
   where
     by : digits k (n / 10) ≡ digits_in 10 k (n / 10) → (n < 10) ⊎ (10 ≤ n) → digits (suc k) n ≡ digits_in 10 (suc k) n
-    by rest (inl s) = ap (λ (d : ℕ). cond (nat_lt n 10) (d ∷ []) []) (sym (digit_ten n s))
-    by rest (inr s) = refl
+    by rest (inl s) = cond-true _ _ _ (lt-ltb n 10 s) ∙ (ap (λ (d : ℕ). d ∷ []) (sym (digit_ten n s)) ∙ sym (one 10 (lit< tt) k n s))
+    by rest (inr s) =
+        cond-false _ _ _ (le-ltb n 10 s)
+        ∙ (ap (λ (l : List ℕ). l ++ ((48 + n % 10) ∷ [])) rest
+        ∙ (ap (λ (d : ℕ). digits_in 10 k (n / 10) ++ (d ∷ [])) (sym (digit_ten (n % 10) (omega arith)))
+        ∙ sym (more 10 (lit< tt) k n s)))
 
 -- decimal is the base ten
 pub dec_in_base : (n : ℕ) → dec n ≡ in_base 10 n
 dec_in_base n = digits_ten (suc n) n
 
 pub dec_one : (n : ℕ) → n < 10 → dec n ≡ (48 + n) ∷ []
-dec_one n h = base_one 10 (lit< tt) n h ∙ ap (λ (d : ℕ). d ∷ []) (digit_ten n h)
+dec_one n h = dec_in_base n ∙ (base_one 10 (lit< tt) n h ∙ ap (λ (d : ℕ). d ∷ []) (digit_ten n h))
 
 pub dec_more : (n : ℕ) → 10 ≤ n → dec n ≡ dec (n / 10) ++ ((48 + n % 10) ∷ [])
-dec_more n h = base_more 10 (lit< tt) n h ∙ ap (λ (d : ℕ). dec (n / 10) ++ (d ∷ [])) (digit_ten (n % 10) (omega arith))
+dec_more n h =
+    dec_in_base n
+    ∙ (base_more 10 (lit< tt) n h
+    ∙ (ap (λ (d : ℕ). in_base 10 (n / 10) ++ (d ∷ [])) (digit_ten (n % 10) (omega arith))
+    ∙ ap (λ (l : List ℕ). l ++ ((48 + n % 10) ∷ [])) (sym (dec_in_base (n / 10)))))
 
 pub dec_more_length : (n : ℕ) → 10 ≤ n → length (dec n) ≡ length (dec (n / 10)) + 1
-dec_more_length n h = base_more_length 10 (lit< tt) n h
+dec_more_length n h = ap length (dec_more n h) ∙ length-append (dec (n / 10)) ((48 + n % 10) ∷ [])
 
 pub dec_short : (k n : ℕ) → n < 10 ^ suc k → length (dec n) ≤ suc k
-dec_short k n h = base_short 10 (lit< tt) k n h
+dec_short k n h = omega (arith, ap length (dec_in_base n), base_short 10 (lit< tt) k n h)
 
 pub hex_short : (k n : ℕ) → n < 16 ^ suc k → length (hex_num n) ≤ suc k
 hex_short k n h = base_short 16 (lit< tt) k n h
