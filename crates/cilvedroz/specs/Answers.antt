@@ -1,5 +1,5 @@
 -- What the C interface answers, and the output after it. Assumes nothing.
-use Rattle.std.specs.Prelude.{ℕ, min, Bool, true, cond, List, ℤ, pos, negsuc, neg_ℤ, Some, None, Ok, Err, Option, Result, ◌==◌}
+use Rattle.std.specs.Prelude.{ℕ, min, true, cond, List, ℤ, pos, negsuc, neg_ℤ, Some, None, Ok, Err, Option, Result, ◌==◌}
 use Rattle.keycode.specs.declared.key.KeyCode.{KeyCode}
 use Rattle.keycode.specs.declared.modes.KeyboardEncoding.{KeyboardEncoding}
 use Rattle.encode.specs.declared.form.EncodeFault.{EncodeFault}

@@ -1,5 +1,5 @@
 -- The eleven modifiers. Assumes nothing.
-use Rattle.std.specs.Prelude.{ℕ, ◌^◌, List, map}
+use Rattle.std.specs.Prelude.{◌^◌, List, map}
 use Rattle.std.specs.List.{range_with_len}
 use Rattle.keycode.specs.declared.modifiers.Modifiers.{Modifiers}
 

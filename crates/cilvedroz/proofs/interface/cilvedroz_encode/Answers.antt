@@ -7,15 +7,15 @@ pub returns-then-is_down-eq0 : goal.returns-then-is_down-eq0
 unfolding answer
 returns-then-is_down-eq0 c = grind (arith, nat_tests)
 
-pub returns-in-default : goal.returns-in-default
+pub returns-in_default : goal.returns-in_default
 unfolding answer
-returns-in-default c = let k = c.in-default.ensures in grind (arith, nat_tests, k)
+returns-in_default c = let k = c.in_default.ensures in grind (arith, nat_tests, k)
 
-pub returns-in-default-encoding_of : goal.returns-in-default-encoding_of
+pub returns-in_default-encoding_of : goal.returns-in_default-encoding_of
 unfolding answer
-returns-in-default-encoding_of c =
+returns-in_default-encoding_of c =
     let k = c.in-Some.ensures in
-    let e = c.in-default-encoding_of.ensures in
+    let e = c.in_default-encoding_of.ensures in
     grind (arith, nat_tests, k, e)
 
 pub returns : goal.returns

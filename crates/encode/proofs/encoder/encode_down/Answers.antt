@@ -15,7 +15,7 @@ returns-in-Some c =
 pub returns : goal.returns
 unfolding pressed
 returns c =
-    let e = c.in-default.ensures in
+    let e = c.in_default.ensures in
     record {
       after = grind (arith, e);
       count = search rules;

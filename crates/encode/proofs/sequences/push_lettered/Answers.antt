@@ -1,5 +1,4 @@
 use Rattle.std.proofs.Common.{append_assoc, arith}
-use Rattle.std.proofs.lemmas.Bool.Decides.{nat_tests}
 use Rattle.encode.proofs.sequences.push_lettered.Goals as goal
 
 pub returns : goal.returns

@@ -1,4 +1,4 @@
-use Rattle.std.proofs.Common.{ℕ, List, refl, Bor}
+use Rattle.std.proofs.Common.{ℕ, List, Bor}
 use lib.ListN.{get_or-map}
 use Rattle.keycode.specs.Names.{names}
 use Rattle.keycode.proofs.names.name_at.Goals as goal

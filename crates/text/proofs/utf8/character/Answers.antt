@@ -13,10 +13,10 @@ returns-then-is_empty c =
     let v = reading_empty bytes c.if-is_empty.ensures in
     record { value = v; count = counted bytes _ v; bytes = exactly bytes _ v; stays = stays bytes _ v; back = read_back }
 
-pub returns-in-default : goal.returns-in-default
-returns-in-default c =
+pub returns-in_default : goal.returns-in_default
+returns-in_default c =
     let bytes = c.args.bytes.now in
-    let v = reading_of_none bytes c.if-is_empty.ensures c.in-default.ensures in
+    let v = reading_of_none bytes c.if-is_empty.ensures c.in_default.ensures in
     record { value = v; count = counted bytes _ v; bytes = exactly bytes _ v; stays = stays bytes _ v; back = read_back }
 
 pub returns-then-more-row : goal.returns-then-more-row
