@@ -10,7 +10,7 @@ use crate::walk::find_place;
 // Makes `child` the first child of node `at`.
 fn set_child<V: Copy>(nodes: &mut [Node<V>], at: usize, child: usize)
     requires { at < length nodes.old }
-    ensures { nodes.new ≡ child-set nodes.old at child }
+    ensures { nodes.new ≡ child_set nodes.old at child }
 {
     nodes[at].child = child;
 }
@@ -18,7 +18,7 @@ fn set_child<V: Copy>(nodes: &mut [Node<V>], at: usize, child: usize)
 // Makes `next` the next sibling of node `at`.
 fn set_next<V: Copy>(nodes: &mut [Node<V>], at: usize, next: usize)
     requires { at < length nodes.old }
-    ensures { nodes.new ≡ next-set nodes.old at next }
+    ensures { nodes.new ≡ next_set nodes.old at next }
 {
     nodes[at].next = next;
 }

@@ -8,7 +8,7 @@ use Rattle.keymap.proofs.insert.insert_first.Goals as goal
 pub grow-at-requires : goal.grow-at-requires
 grow-at-requires g c =
     let xs = c.args.nodes.now in
-    let b = c.in-ok-n.ensures in
+    let b = c.in_ok-n.ensures in
     let l : 0 < length xs = omega (arith, b.0, b.1) in
     let e = ap (set xs 0) c.empty.ensures in
     record {
@@ -17,10 +17,10 @@ grow-at-requires g c =
       room = omega (arith, b.0, b.1, length-set xs 0 c.empty.result);
     }
 
-pub put-value-requires : goal.put-value-requires
-put-value-requires g c =
+pub put_value-requires : goal.put_value-requires
+put_value-requires g c =
     let xs = c.args.nodes.now in
-    let b = c.in-ok-n.ensures in
+    let b = c.in_ok-n.ensures in
     let l : 0 < length xs = omega (arith, b.0, b.1) in
     let m = c.grow-at.ensures (λ i. 0) (root_well xs _ l (ap (set xs 0) c.empty.ensures)) in
     grown_inside m.1
@@ -29,19 +29,19 @@ pub returns : goal.returns
 returns g c s h =
     let xs = c.args.nodes.now in
     let key = c.args.key.now in
-    let b = c.in-ok-n.ensures in
+    let b = c.in_ok-n.ensures in
     let l : 0 < length xs = omega (arith, b.0, b.1) in
     let e = ap (set xs 0) c.empty.ensures in
-    let n : 1 + (length key - 0) ≡ c.in-ok-n.n = omega (arith, b.0) in
+    let n : 1 + (length key - 0) ≡ c.in_ok-n.n = omega (arith, b.0) in
     inserts_ok h.0 _ _ s h.1 key _ _ _
     (insert_done h.0 _ _ 0 _ _ _ key _ _ h.1.well (λ i q. absurd (omega arith))
     (grew_end h.0 _ _ _ _ _ _ key _ (length key) _ n refl
     (from_root xs _ l e h.0 key _ _ _ (length key) (c.grow-at.ensures (λ i. 0) (root_well xs _ l e))))
-    c.put-value.ensures)
+    c.put_value.ensures)
     (omega (arith, b.0, first_need key s h.1.size)) b.1
 
-pub returns-in-err-n : goal.returns-in-err-n
-returns-in-err-n g c =
-    let p = err_from_is_err_and c.from-residual.result c.from-residual.ensures.1 in
-    let b = c.in-err-n.ensures in
+pub returns-in_err-n : goal.returns-in_err-n
+returns-in_err-n g c =
+    let p = err_from_is_err_and c.from_residual.result c.from_residual.ensures.1 in
+    let b = c.in_err-n.ensures in
     rw (p.1, p.2) (λ s h. (b.0, omega (arith, b.1, first_need c.args.key.now s h.1.size), refl))

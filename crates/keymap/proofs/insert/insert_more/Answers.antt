@@ -8,11 +8,11 @@ use Rattle.keymap.proofs.insert.insert_more.Goals as goal
 pub follow-t-requires : goal.follow-t-requires
 follow-t-requires g c = record { sound = (c.requires.valid.1.0, c.requires.valid.1.1.well); rooted = c.requires.rooted }
 
-pub overflow-sub-key : goal.overflow-sub-key
-overflow-sub-key g c = (c.follow-t.ensures.deepest c.requires.valid.1.0 c.requires.valid.1.1.well).short
+pub overflow_sub-key : goal.overflow_sub-key
+overflow_sub-key g c = (c.follow-t.ensures.deepest c.requires.valid.1.0 c.requires.valid.1.1.well).short
 
-pub put-value-requires : goal.put-value-requires
-put-value-requires g c =
+pub put_value-requires : goal.put_value-requires
+put_value-requires g c =
     let m = c.grow-at.ensures c.requires.valid.1.0 c.requires.valid.1.1.well in
     grown_inside m.1
 
@@ -21,15 +21,15 @@ returns g c s h =
     let up = h.0 in
     let w = h.1.well in
     let key = c.args.key.now in
-    let b = c.in-ok-n.ensures in
+    let b = c.in_ok-n.ensures in
     let goal = more_need key up _ _ s h.1 c.requires.rooted _ _ (c.follow-t.ensures.deepest up w) in
     inserts_ok up _ _ s h.1 key _ _ _
-    (insert_done up _ _ c.follow-t.result.at _ _ _ key _ _ w (λ i l _ kz vz. h.1.live i l kz vz) (grew_end up _ _ _ _ _ _ key _ (length key) _ (sym b.0) refl (c.grow-at.ensures up w)) c.put-value.ensures)
+    (insert_done up _ _ c.follow-t.result.at _ _ _ key _ _ w (λ i l _ kz vz. h.1.live i l kz vz) (grew_end up _ _ _ _ _ _ key _ (length key) _ (sym b.0) refl (c.grow-at.ensures up w)) c.put_value.ensures)
     (b.0 ∙ goal) b.1
 
-pub returns-in-err-n : goal.returns-in-err-n
-returns-in-err-n g c =
-    let p = err_from_is_err_and c.from-residual.result c.from-residual.ensures.1 in
-    let b = c.in-err-n.ensures in
+pub returns-in_err-n : goal.returns-in_err-n
+returns-in_err-n g c =
+    let p = err_from_is_err_and c.from_residual.result c.from_residual.ensures.1 in
+    let b = c.in_err-n.ensures in
     rw (p.1, p.2)
     (λ s h. (b.0, omega (arith, b.1, more_need c.args.key.now h.0 _ _ s h.1 c.requires.rooted _ _ (c.follow-t.ensures.deepest h.0 h.1.well)), refl))

@@ -3,7 +3,7 @@ use Rattle.std.proofs.lemmas.Bool.{both_ways}
 use Rattle.keymap.proofs.Looked.{answers_none, answers_need_data, answers_ambiguous, answers_exact}
 use Rattle.keymap.proofs.Ways.{at_in}
 use Rattle.keymap.proofs.lookup.lookup_in.Goals as goal
-use Rattle.keymap.proofs.lookup.lookup_in.Goals.{else-maybe-more-via-then-maybe-more+else-on, else-maybe-more-via-else-maybe-more}
+use Rattle.keymap.proofs.lookup.lookup_in.Goals.{else-maybe_more-via-then-maybe_more+else-on, else-maybe_more-via-else-maybe_more}
 
 pub follow-t-requires : goal.follow-t-requires
 follow-t-requires g c = record { sound = (c.requires.valid.1.0, c.requires.valid.1.1.well); rooted = c.requires.rooted }
@@ -12,8 +12,8 @@ pub returns-then-key-gt0 : goal.returns-then-key-gt0
 returns-then-key-gt0 g c s h =
     answers_none s h.0 _ _ h.1 _ _ _ (c.follow-t.ensures.deepest h.0 h.1.well) _ (omega arith) (omega arith)
 
-pub goes-on-on-requires : goal.goes-on-on-requires
-goes-on-on-requires g c =
+pub goes_on-on-requires : goal.goes_on-on-requires
+goes_on-on-requires g c =
     let w = c.requires.valid.1.1.well in
     omega (arith, at_in c.requires.valid.1.0 _ _ w _ _ (c.follow-t.ensures.deepest _ w).way, w.room)
 
@@ -25,13 +25,13 @@ returns-in-None g c s h =
 pub returns-then-on : goal.returns-then-on
 returns-then-on g c s h =
     let w = h.1.well in
-    answers_ambiguous s h.0 _ _ h.1 _ _ _ (c.follow-t.ensures.deepest h.0 w) _ (λ lo. omega (arith, c.else-t-eq0.either)) _ _ _ c.in-Some.is (c.follow-t.ensures.best h.0 w) c.if-maybe-more.true (c.goes-on-on.ensures.yes c.if-on.true)
+    answers_ambiguous s h.0 _ _ h.1 _ _ _ (c.follow-t.ensures.deepest h.0 w) _ (λ lo. omega (arith, c.else-t-eq0.either)) _ _ _ c.in-Some.is (c.follow-t.ensures.best h.0 w) c.if-maybe_more.true (c.goes_on-on.ensures.yes c.if-on.true)
 
-pub returns-else-maybe-more : goal.returns-else-maybe-more
-returns-else-maybe-more g c s h =
+pub returns-else-maybe_more : goal.returns-else-maybe_more
+returns-else-maybe_more g c s h =
     let w = h.1.well in
     answers_exact s h.0 _ _ h.1 _ _ _ (c.follow-t.ensures.deepest h.0 w) _ (λ lo. omega (arith, c.else-t-eq0.either)) _ _ _ c.in-Some.is (c.follow-t.ensures.best h.0 w)
-    (λ m. elim c.else-maybe-more.branch [
-      | else-maybe-more-via-then-maybe-more+else-on v ↦ c.goes-on-on.ensures.no v.if-on.false
-      | else-maybe-more-via-else-maybe-more v ↦ absurd (both_ways c.args.maybe-more v.if-maybe-more.false m)
+    (λ m. elim c.else-maybe_more.branch [
+      | else-maybe_more-via-then-maybe_more+else-on v ↦ c.goes_on-on.ensures.no v.if-on.false
+      | else-maybe_more-via-else-maybe_more v ↦ absurd (both_ways c.args.maybe_more v.if-maybe_more.false m)
     ])

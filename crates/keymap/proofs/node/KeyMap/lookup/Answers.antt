@@ -3,10 +3,10 @@ use Rattle.keymap.proofs.Causes.{something_looked_up, nothing_looked_up, nothing
 use Rattle.keymap.proofs.node.KeyMap.lookup.Goals as goal
 
 pub returns-then-self-gt0 : goal.returns-then-self-gt0
-returns-then-self-gt0 g c s h = ap Ok (c.lookup-in.ensures s h) ∙ sym (something_looked_up s c.args.key.now c.args.maybe-more (omega (arith, h.1.size)))
+returns-then-self-gt0 g c s h = ap Ok (c.lookup_in.ensures s h) ∙ sym (something_looked_up s c.args.key.now c.args.maybe_more (omega (arith, h.1.size)))
 
 pub returns-then-key-eq0 : goal.returns-then-key-eq0
-returns-then-key-eq0 g c s h = sym (nothing_looked_up s c.args.key.now c.args.maybe-more (omega (arith, h.1.size)) (omega arith))
+returns-then-key-eq0 g c s h = sym (nothing_looked_up s c.args.key.now c.args.maybe_more (omega (arith, h.1.size)) (omega arith))
 
 pub returns : goal.returns
-returns g c s h = sym (nothing_starts_so s c.args.key.now c.args.maybe-more (omega (arith, h.1.size)) (omega arith))
+returns g c s h = sym (nothing_starts_so s c.args.key.now c.args.maybe_more (omega (arith, h.1.size)) (omega arith))
