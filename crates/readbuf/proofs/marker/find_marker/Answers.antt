@@ -4,11 +4,11 @@ use Rattle.readbuf.specs.Marker.{marker, begins, Within}
 use Rattle.readbuf.proofs.Markers.{marker_here, marker_more, marker_all, found_within}
 use Rattle.readbuf.proofs.marker.find_marker.Goals as goal
 
-pub returns-then-at-front : goal.returns-then-at-front
-returns-then-at-front c =
+pub returns-then-at_front : goal.returns-then-at_front
+returns-then-at_front c =
     let text = c.args.text.now in
     let i = c.loop-i.i in
-    let e : begins marker (drop i text) ≡ true = ap (begins marker) (sym (take_rest text i)) ∙ (sym c.at-front.ensures ∙ c.if-at-front.true) in
+    let e : begins marker (drop i text) ≡ true = ap (begins marker) (sym (take_rest text i)) ∙ (sym c.at_front.ensures ∙ c.if-at_front.true) in
     let v = sym (marker_here text i c.loop-i-test.true e) ∙ c.loop-i.invariant in
     let P : Option ℕ → Type 0 = λ o. Within (length text) o in
     record { value = v; count = subst P (sym v) (found_within text) }
@@ -17,7 +17,7 @@ pub loop-i-preserved : goal.loop-i-preserved
 loop-i-preserved c =
     let text = c.args.text.now in
     let i = c.loop-i.i in
-    let e : begins marker (drop i text) ≡ false = ap (begins marker) (sym (take_rest text i)) ∙ (sym c.at-front.ensures ∙ c.if-at-front.false) in
+    let e : begins marker (drop i text) ≡ false = ap (begins marker) (sym (take_rest text i)) ∙ (sym c.at_front.ensures ∙ c.if-at_front.false) in
     sym (marker_more text i c.loop-i-test.true e) ∙ c.loop-i.invariant
 
 pub returns : goal.returns

@@ -1,9 +1,9 @@
 use Rattle.std.proofs.Common.{refl, arith}
-use lib.ListN.{length-replicate}
+use Rattle.std.proofs.Math.ListN.{length-replicate}
 use Rattle.events.proofs.queue.Queue.new.Goals as goal
 
-pub invariant-of-result : goal.invariant-of-result
-invariant-of-result g c = (length-replicate _ _, tt)
+pub invariant_of-result : goal.invariant_of-result
+invariant_of-result g c = record { whole = length-replicate _ _ }
 
-pub invariant-of-result-2 : goal.invariant-of-result-2
-invariant-of-result-2 g c = (length-replicate _ _, (omega arith, (omega arith, ((λ i l. absurd (omega arith)), (refl, tt)))))
+pub invariant_of-result-2 : goal.invariant_of-result-2
+invariant_of-result-2 g c = record { whole = length-replicate _ _; counted = omega arith; fits = omega arith; within = λ i l. absurd (omega arith); full = refl }

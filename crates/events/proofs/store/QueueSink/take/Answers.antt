@@ -8,32 +8,30 @@ pub returns-then-self : goal.returns-then-self
 returns-then-self g c =
     elim c.then-self.branch [
       | then-self-via-then-self w ↦ record { after = λ z. absurd (let y : ◌≡◌ {A = ℕ} 0 1 = cc in omega arith); stays = λ _. (no_record c.args.self.now (told c.args.event) (omega arith), refl) }
-      | then-self-via-else-self+then-text-self w ↦ record { after = λ z. absurd (let y : ◌≡◌ {A = ℕ} 0 1 = cc in omega arith); stays = λ _. (no_text c.args.self.now (told c.args.event) (omega (arith, ap length c.text-of-text.ensures)), refl) }
+      | then-self-via-else-self+then-text-self w ↦ record { after = λ z. absurd (let y : ◌≡◌ {A = ℕ} 0 1 = cc in omega arith); stays = λ _. (no_text c.args.self.now (told c.args.event) (omega (arith, ap length c.text_of-text.ensures)), refl) }
     ]
 
-pub invariant-of-self : goal.invariant-of-self
-invariant-of-self g c =
+pub invariant_of-self : goal.invariant_of-self
+invariant_of-self g c =
     let q = c.args.self.now in
     let e = told c.args.event in
-    let is = c.record-of.ensures in
-    let long = ap length c.text-of-text.ensures in (
-      length-set q.records q.count c.record-of.result ∙ q.whole,
-      (
-        omega arith,
-        (
-          omega arith,
-          (within_push q e c.record-of.result _ is long (omega arith), (full_push q e c.record-of.result _ is long (omega arith), tt)),
-        ),
-      ),
-    )
+    let is = c.record_of.ensures in
+    let long = ap length c.text_of-text.ensures in
+    record {
+      whole = length-set q.records q.count c.record_of.result ∙ q.whole;
+      counted = omega arith;
+      fits = omega arith;
+      within = within_push q e c.record_of.result _ is long (omega arith);
+      full = full_push q e c.record_of.result _ is long (omega arith);
+    }
 
 pub returns : goal.returns
 returns g c =
     let q = c.args.self.now in
     let e = told c.args.event in
-    let text = c.text-of-text.ensures in
+    let text = c.text_of-text.ensures in
     let written = c.put.ensures ∙ ap (λ (t : List ℕ). take q.used q.texts.bytes ++ t) text in
     record {
-      after = λ _. takes q e c.record-of.result (length c.text-of-text.result.now) c.record-of.ensures (ap length text) (omega arith) _ written (omega arith);
+      after = λ _. takes q e c.record_of.result (length c.text_of-text.result.now) c.record_of.ensures (ap length text) (omega arith) _ written (omega arith);
       stays = λ z. absurd (let y : ◌≡◌ {A = ℕ} 0 1 = cc in omega arith);
     }

@@ -7,7 +7,7 @@ use Rattle.readbuf.proofs.store.ReadBuffer.extend.Goals.{then-chunk-self, else-c
 
 pub returns : goal.returns
 returns c =
-    let s : held c.if-chunk-self.self ≡ held c.args.self.now = elim c.if-chunk-self.branch [ then-chunk-self w ↦ ap held w.self-is ∙ w.move-to-front.ensures.same | else-chunk-self w ↦ ap held w.self-is ] in
+    let s : held c.if-chunk-self.self ≡ held c.args.self.now = elim c.if-chunk-self.branch [ then-chunk-self w ↦ ap held w.self-is ∙ w.move_to_front.ensures.same | else-chunk-self w ↦ ap held w.self-is ] in
     let n : c.args.self.now.end + length c.args.chunk.now ≤ 4096 → c.if-chunk-self.self.start ≡ c.args.self.now.start = λ h. elim c.if-chunk-self.branch [ then-chunk-self w ↦ absurd (omega (arith, w.if-chunk-self.true)) | else-chunk-self w ↦ ap (λ (b : ReadBuffer). b.start) w.self-is ] in
     record {
       value = grind (arith, nat_tests);
