@@ -1,4 +1,4 @@
-use Rattle.std.proofs.Common.{◌-◌, [], ◌∷◌, sym, refl, ◌∙◌, arith}
+use Rattle.std.proofs.Common.{◌-◌, sym, refl, ◌∙◌, arith}
 use Rattle.encode.specs.Sequences.{ss3}
 use Rattle.table.specs.Table.{entry, form, forms}
 use Rattle.table.specs.Told.{blank}

@@ -1,4 +1,4 @@
-use Rattle.std.proofs.Common.{◌-◌, sym, refl, ◌∙◌, arith}
+use Rattle.std.proofs.Common.{sym, refl, ◌∙◌, arith}
 use Rattle.character.specs.Parts.{csi}
 use Rattle.keycode.specs.declared.key.KeyCode.TheVariants.{Char}
 use Rattle.writer.specs.Numbers.{dec}
