@@ -6,5 +6,5 @@ use Rattle.lines.proofs.fields.reads.Goals as goal
 
 pub returns : goal.returns
 returns c =
-    same_from_decides c.eq.result (bytes_eq c.args.field.now c.as_bytes.result.now) (slice_eq-Decides Decides-eqb _ _ _ c.eq.ensures) (bytes_eq-Decides _ _)
+    same_from_decides c.eq.result (bytes_eq c.args.field.now c.as_bytes.result.now) (slice_eq-Decides Decides-eqb _ _ _ c.eq.ensures) (bytes_eq-Decides c.args.field.now c.as_bytes.result.now)
     ∙ ap (bytes_eq c.args.field.now) c.as_bytes.ensures.value

@@ -1,5 +1,5 @@
 use Rattle.std.proofs.Common.{ℕ, List, Bor}
-use lib.ListN.{get_or-map}
+use Rattle.std.proofs.Math.ListN.{get_or-map}
 use Rattle.lines.specs.Mods.{mods_texts}
 use Rattle.lines.proofs.mods.text_at.Goals as goal
 
