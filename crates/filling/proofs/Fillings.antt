@@ -1,8 +1,8 @@
 -- A filling, part by part. Assumes nothing.
-use Rattle.std.proofs.Common.{◌≡◌, ℕ, List, [], ◌∷◌, ◌++◌, length, Some, None, Ok, Err, Option, Result, sym, refl, ap, ◌∙◌, subst, arith}
+use Rattle.std.proofs.Common.{◌≡◌, ℕ, ◌+◌, List, [], ◌∷◌, ◌++◌, length, drop, Some, None, Ok, Err, Option, Result, sym, refl, ap, ◌∙◌, subst, arith}
 use Rattle.keymap.specs.declared.found.MapFault.{MapFault}
 use Rattle.keymap.specs.declared.node.KeyMap.{KeyMap}
-use Rattle.filling.specs.Filling.{Outcome, onward, filled, Fills, FillsLeft}
+use Rattle.filling.specs.Filling.{Outcome, onward, filled, Fills, FilledTo, FillsLeft}
 use Rattle.keymap.specs.Finding.{unless}
 use Rattle.keymap.specs.Holding.{Holds}
 use Rattle.keymap.specs.Room.{insert_cause, after}
@@ -60,23 +60,23 @@ module _ {V : Type 0} where
 
   -- entries part by part: nothing yet, one part more, a refusal, the end
   module _ (start m next : KeyMap V) (es : List (Entry V)) where
-    pub filled_none : FillsLeft start start es es
-    filled_none s h = (s, (h, refl))
+    pub left_none : FillsLeft start start es es
+    left_none s h = (s, (h, refl))
 
     module _ (left xs ys : List (Entry V)) (so : FillsLeft start m left es) (parts : left ≡ xs ++ ys) (supplied : length m.nodes.now ≡ length start.nodes.now) where
       abbrev Part : Result (Unit {0}) MapFault → Stored V → ℕ → Type 0
       Part r cur n = (r ≡ (filled n cur xs).said) × Holds next (filled n cur xs).stored
 
-      pub filled_more : Fills m next (Ok tt) xs → FillsLeft start next ys es
-      filled_more fills s h =
+      pub left_more : Fills m next (Ok tt) xs → FillsLeft start next ys es
+      left_more fills s h =
           let n = length start.nodes.now in
           let was = so s h in
           let cur = was.0 in
           let f : Part (Ok tt) cur n = subst (Part (Ok tt) cur) supplied (fills cur was.1.0) in
           ((filled n cur xs).stored, (f.1, sym (filling_goes_on n cur xs ys f.0) ∙ (sym (ap (filled n cur) parts) ∙ was.1.1)))
 
-      pub filled_stops : (fault : MapFault) → Fills m next (Err fault) xs → Fills start next (Err fault) es
-      filled_stops fault fills s h =
+      pub left_stops : (fault : MapFault) → Fills m next (Err fault) xs → Fills start next (Err fault) es
+      left_stops fault fills s h =
           let n = length start.nodes.now in
           let was = so s h in
           let cur = was.0 in
@@ -85,10 +85,24 @@ module _ {V : Type 0} where
           sym (filling_stops n cur xs ys fault f.0) ∙ (sym (ap (filled n cur) parts) ∙ was.1.1) in
           (f.0 ∙ ap (λ (o : Outcome V). o.said) whole, subst (λ (o : Outcome V). Holds next o.stored) whole f.1)
 
-    pub filled_all : (left : List (Entry V)) → FillsLeft start m left es → left ≡ [] → Fills start m (Ok tt) es
+    pub left_all : (left : List (Entry V)) → FillsLeft start m left es → left ≡ [] → Fills start m (Ok tt) es
     unfolding filled
-    filled_all left so done s h =
+    left_all left so done s h =
         let n = length start.nodes.now in
         let was = so s h in
         let whole : filled n was.0 [] ≡ filled n s es = sym (ap (filled n was.0) done) ∙ was.1.1 in
         (ap (λ (o : Outcome V). o.said) whole, subst (λ (o : Outcome V). Holds m o.stored) whole was.1.0)
+
+  -- the same of entries one by one, by their places
+  module _ (start m next : KeyMap V) (es : List (Entry V)) (i : ℕ) where
+    pub filled_none : FilledTo start start es 0
+    filled_none = left_none start m next es
+
+    pub filled_more : FilledTo start m es i → (e : Entry V) → drop i es ≡ e ∷ drop (i + 1) es → length m.nodes.now ≡ length start.nodes.now → Fills m next (Ok tt) (e ∷ []) → FilledTo start next es (i + 1)
+    filled_more so e here supplied = left_more start m next es (drop i es) (e ∷ []) (drop (i + 1) es) so here supplied
+
+    pub filled_stops : FilledTo start m es i → (e : Entry V) → drop i es ≡ e ∷ drop (i + 1) es → length m.nodes.now ≡ length start.nodes.now → (fault : MapFault) → Fills m next (Err fault) (e ∷ []) → Fills start next (Err fault) es
+    filled_stops so e here supplied = left_stops start m next es (drop i es) (e ∷ []) (drop (i + 1) es) so here supplied
+
+    pub filled_all : FilledTo start m es i → drop i es ≡ [] → Fills start m (Ok tt) es
+    filled_all so done = left_all start m next es (drop i es) so done

@@ -6,35 +6,35 @@ use Rattle.std.proofs.lemmas.Bool.{lt-ltb, le-ltb, cases_lt, cond-true, cond-fal
 use Rattle.writer.specs.Numbers.{digits, dec, digits_in, in_base, hex_num, hex_digit, hex_of}
 
 module _ (base : ℕ) (big : 1 < base) where
-  one : (k n : ℕ) → n < base → digits_in base (suc k) n ≡ hex_digit n ∷ []
+  first : (k n : ℕ) → n < base → digits_in base (suc k) n ≡ hex_digit n ∷ []
   unfolding digits_in
-  one k n h = ap (λ b. cond b (hex_digit n ∷ []) (digits_in base k (n / base) ++ (hex_digit (n % base) ∷ []))) (lt-ltb n base h)
+  first k n h = ap (λ b. cond b (hex_digit n ∷ []) (digits_in base k (n / base) ++ (hex_digit (n % base) ∷ []))) (lt-ltb n base h)
 
-  more : (k n : ℕ) → base ≤ n → digits_in base (suc k) n ≡ digits_in base k (n / base) ++ (hex_digit (n % base) ∷ [])
+  further : (k n : ℕ) → base ≤ n → digits_in base (suc k) n ≡ digits_in base k (n / base) ++ (hex_digit (n % base) ∷ [])
   unfolding digits_in
-  more k n h = ap (λ b. cond b (hex_digit n ∷ []) (digits_in base k (n / base) ++ (hex_digit (n % base) ∷ []))) (le-ltb n base h)
+  further k n h = ap (λ b. cond b (hex_digit n ∷ []) (digits_in base k (n / base) ++ (hex_digit (n % base) ∷ []))) (le-ltb n base h)
 
   less : (n : ℕ) → base ≤ n → n / base < n
   less n h = div-lt_self (omega arith) big
 
   -- any two numbers of steps that suffice give the same digits
-  enough : (j k n : ℕ) → n < j → n < k → digits_in base j n ≡ digits_in base k n
-  enough zero k n h g = absurd (omega arith)
-  enough (suc j) zero n h g = absurd (omega arith)
-  enough (suc j) (suc k) n h g =
-      by (λ s. enough j k (n / base) (omega (arith, less n s)) (omega (arith, less n s))) (cases_lt n base)
+  suffice : (j k n : ℕ) → n < j → n < k → digits_in base j n ≡ digits_in base k n
+  suffice zero k n h g = absurd (omega arith)
+  suffice (suc j) zero n h g = absurd (omega arith)
+  suffice (suc j) (suc k) n h g =
+      by (λ s. suffice j k (n / base) (omega (arith, less n s)) (omega (arith, less n s))) (cases_lt n base)
     where
       by : (base ≤ n → digits_in base j (n / base) ≡ digits_in base k (n / base)) → (n < base) ⊎ (base ≤ n) → digits_in base (suc j) n ≡ digits_in base (suc k) n
-      by rest (inl s) = one j n s ∙ sym (one k n s)
-      by rest (inr s) = more j n s ∙ (ap (λ (l : List ℕ). l ++ (hex_digit (n % base) ∷ [])) (rest s) ∙ sym (more k n s))
+      by rest (inl s) = first j n s ∙ sym (first k n s)
+      by rest (inr s) = further j n s ∙ (ap (λ (l : List ℕ). l ++ (hex_digit (n % base) ∷ [])) (rest s) ∙ sym (further k n s))
 
   pub base_one : (n : ℕ) → n < base → in_base base n ≡ hex_digit n ∷ []
-  base_one n h = one n n h
+  base_one n h = first n n h
 
   pub base_more : (n : ℕ) → base ≤ n → in_base base n ≡ in_base base (n / base) ++ (hex_digit (n % base) ∷ [])
   base_more n h =
-      more n n h
-      ∙ ap (λ (l : List ℕ). l ++ (hex_digit (n % base) ∷ [])) (enough n (suc (n / base)) (n / base) (less n h) (omega arith))
+      further n n h
+      ∙ ap (λ (l : List ℕ). l ++ (hex_digit (n % base) ∷ [])) (suffice n (suc (n / base)) (n / base) (less n h) (omega arith))
 
   pub base_more_length : (n : ℕ) → base ≤ n → length (in_base base n) ≡ length (in_base base (n / base)) + 1
   base_more_length n h = ap length (base_more n h) ∙ length-append (in_base base (n / base)) (hex_digit (n % base) ∷ [])
@@ -58,26 +58,36 @@ digits_ten zero n = refl
 digits_ten (suc k) n = by (digits_ten k (n / 10)) (cases_lt n 10)
   where
     by : digits k (n / 10) ≡ digits_in 10 k (n / 10) → (n < 10) ⊎ (10 ≤ n) → digits (suc k) n ≡ digits_in 10 (suc k) n
-    by rest (inl s) = cond-true _ _ _ (lt-ltb n 10 s) ∙ (ap (λ (d : ℕ). d ∷ []) (sym (digit_ten n s)) ∙ sym (one 10 (lit< tt) k n s))
+    by rest (inl s) = cond-true _ _ _ (lt-ltb n 10 s) ∙ (ap (λ (d : ℕ). d ∷ []) (sym (digit_ten n s)) ∙ sym (first 10 (lit< tt) k n s))
     by rest (inr s) =
         cond-false _ _ _ (le-ltb n 10 s)
         ∙ (ap (λ (l : List ℕ). l ++ ((48 + n % 10) ∷ [])) rest
         ∙ (ap (λ (d : ℕ). digits_in 10 k (n / 10) ++ (d ∷ [])) (sym (digit_ten (n % 10) (omega arith)))
-        ∙ sym (more 10 (lit< tt) k n s)))
+        ∙ sym (further 10 (lit< tt) k n s)))
+
+one : (k n : ℕ) → n < 10 → digits (suc k) n ≡ (48 + n) ∷ []
+one k n h = digits_ten (suc k) n ∙ (first 10 (lit< tt) k n h ∙ ap (λ (d : ℕ). d ∷ []) (digit_ten n h))
+
+more : (k n : ℕ) → 10 ≤ n → digits (suc k) n ≡ digits k (n / 10) ++ ((48 + n % 10) ∷ [])
+more k n h =
+    digits_ten (suc k) n
+    ∙ (further 10 (lit< tt) k n h
+    ∙ (ap (λ (d : ℕ). digits_in 10 k (n / 10) ++ (d ∷ [])) (digit_ten (n % 10) (omega arith))
+    ∙ ap (λ (l : List ℕ). l ++ ((48 + n % 10) ∷ [])) (sym (digits_ten k (n / 10)))))
+
+-- any two numbers of steps that suffice give the same digits
+enough : (j k n : ℕ) → n < j → n < k → digits j n ≡ digits k n
+enough j k n h g = digits_ten j n ∙ (suffice 10 (lit< tt) j k n h g ∙ sym (digits_ten k n))
 
 -- decimal is the base ten
 pub dec_in_base : (n : ℕ) → dec n ≡ in_base 10 n
 dec_in_base n = digits_ten (suc n) n
 
 pub dec_one : (n : ℕ) → n < 10 → dec n ≡ (48 + n) ∷ []
-dec_one n h = dec_in_base n ∙ (base_one 10 (lit< tt) n h ∙ ap (λ (d : ℕ). d ∷ []) (digit_ten n h))
+dec_one n h = one n n h
 
 pub dec_more : (n : ℕ) → 10 ≤ n → dec n ≡ dec (n / 10) ++ ((48 + n % 10) ∷ [])
-dec_more n h =
-    dec_in_base n
-    ∙ (base_more 10 (lit< tt) n h
-    ∙ (ap (λ (d : ℕ). in_base 10 (n / 10) ++ (d ∷ [])) (digit_ten (n % 10) (omega arith))
-    ∙ ap (λ (l : List ℕ). l ++ ((48 + n % 10) ∷ [])) (sym (dec_in_base (n / 10)))))
+dec_more n h = more n n h ∙ ap (λ (l : List ℕ). l ++ ((48 + n % 10) ∷ [])) (enough n (suc (n / 10)) (n / 10) (omega arith) (omega arith))
 
 pub dec_more_length : (n : ℕ) → 10 ≤ n → length (dec n) ≡ length (dec (n / 10)) + 1
 dec_more_length n h = ap length (dec_more n h) ∙ length-append (dec (n / 10)) ((48 + n % 10) ∷ [])

@@ -1,6 +1,6 @@
 use Rattle.std.proofs.Common.{◌+◌, get_or, drop, Ok, Err, ◌∙◌, subst, arith}
 use Rattle.std.proofs.lemmas.Result.{err_from_is_err_and}
-use Rattle.filling.proofs.Fillings.{filled_more, filled_stops, filled_all}
+use Rattle.filling.proofs.Fillings.{left_more, left_stops, left_all}
 use Rattle.filling.specs.Filling.{Fills}
 use Rattle.table.specs.declared.rule.Rule.{Rule}
 use Rattle.table.specs.declared.rule.Rule.TheVariants.{Letters}
@@ -20,7 +20,7 @@ returns-in_err-fill_rule c =
       lender = b.lender ∙ c.loop-i.invariant.0;
       valid = b.valid;
       supplied = b.supplied ∙ c.loop-i.invariant.2;
-      fills = filled_stops c.args.map.now c.loop-i.map c.fill_rule.new.map table (each (drop i rules) entries_of) (entries_of (get_or rules i Letters)) (each (drop (i + 1) rules) entries_of) c.loop-i.invariant.3 (each_more entries_of rules i Letters (omega (arith, nine_rules))) c.loop-i.invariant.2 c.in_err-fill_rule.field-0.0 f;
+      fills = left_stops c.args.map.now c.loop-i.map c.fill_rule.new.map table (each (drop i rules) entries_of) (entries_of (get_or rules i Letters)) (each (drop (i + 1) rules) entries_of) c.loop-i.invariant.3 (each_more entries_of rules i Letters (omega (arith, nine_rules))) c.loop-i.invariant.2 c.in_err-fill_rule.field-0.0 f;
     })
 
 pub loop-i-preserved : goal.loop-i-preserved
@@ -29,7 +29,7 @@ loop-i-preserved c =
     let f : Fills c.loop-i.map c.fill_rule.new.map (Ok tt) (entries_of (get_or rules c.loop-i.i Letters)) =
     subst (λ (rule : Rule). Fills c.loop-i.map c.fill_rule.new.map (Ok tt) (entries_of rule)) c.rule_at.ensures b.fills in
     let i = c.loop-i.i in
-    (b.lender ∙ c.loop-i.invariant.0, b.valid, b.supplied ∙ c.loop-i.invariant.2, filled_more c.args.map.now c.loop-i.map c.fill_rule.new.map table (each (drop i rules) entries_of) (entries_of (get_or rules i Letters)) (each (drop (i + 1) rules) entries_of) c.loop-i.invariant.3 (each_more entries_of rules i Letters (omega (arith, nine_rules))) c.loop-i.invariant.2 f)
+    (b.lender ∙ c.loop-i.invariant.0, b.valid, b.supplied ∙ c.loop-i.invariant.2, left_more c.args.map.now c.loop-i.map c.fill_rule.new.map table (each (drop i rules) entries_of) (entries_of (get_or rules i Letters)) (each (drop (i + 1) rules) entries_of) c.loop-i.invariant.3 (each_more entries_of rules i Letters (omega (arith, nine_rules))) c.loop-i.invariant.2 f)
 
 pub returns : goal.returns
 returns c =
@@ -38,5 +38,5 @@ returns c =
       lender = c.loop-i.invariant.0;
       valid = c.loop-i.invariant.1;
       supplied = c.loop-i.invariant.2;
-      fills = filled_all c.args.map.now c.loop-i.map c.loop-i.map table (each (drop i rules) entries_of) c.loop-i.invariant.3 (each_all entries_of rules i (omega (arith, nine_rules)));
+      fills = left_all c.args.map.now c.loop-i.map c.loop-i.map table (each (drop i rules) entries_of) c.loop-i.invariant.3 (each_all entries_of rules i (omega (arith, nine_rules)));
     }
