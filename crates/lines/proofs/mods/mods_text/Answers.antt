@@ -1,4 +1,4 @@
-use Rattle.std.proofs.Common.{◌≡◌, ◌%◌, ◌<◌, ap, ◌∙◌, arith}
+use Rattle.std.proofs.Common.{◌%◌, ◌<◌, ap, ◌∙◌, arith}
 use Rattle.lines.specs.Mods.{set_of}
 use Rattle.lines.proofs.Letters.{text_at, read_back}
 use Rattle.lines.proofs.mods.mods_text.Goals as goal

@@ -1,4 +1,4 @@
-use Rattle.std.proofs.Common.{◌≡◌, None, sym, ap, ◌∙◌, arith}
+use Rattle.std.proofs.Common.{None, sym, ap, ◌∙◌, arith}
 use Rattle.lines.specs.Numbers.{up_to}
 use Rattle.lines.proofs.Numerals.{value_of_none, value_more, value_all, past_stays}
 use Rattle.lines.proofs.numbers.number.Goals as goal
