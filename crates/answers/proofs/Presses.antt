@@ -1,5 +1,5 @@
 -- The answer to a press, from what the encoder answered. Assumes nothing.
-use Rattle.std.proofs.Common.{◌≡◌, ℕ, ◌-◌, true, false, List, take, Some, None, Ok, Err, sym, ap, ◌∙◌}
+use Rattle.std.proofs.Common.{◌≡◌, ℕ, ◌-◌, true, false, List, take, Ok, Err, sym, ap, ◌∙◌}
 use native.Mathlib.Nat.{sub-zero}
 use Rattle.keycode.specs.declared.key.KeyCode.{KeyCode}
 use Rattle.encode.proofs.Sent.{down_is, ok_means, err_means}
