@@ -84,7 +84,7 @@ fn scripts(rt: HostRuntime) {
         key: KeyCode::Char(0x20ac),
         modifiers: Modifiers(20),
     });
-    assert!(rt; line.as_slice() == b"press\tChar\tC\t20AC");
+    assert!(rt; line.as_slice() == b"press\tChar\tC\t20AC".as_slice());
 }
 
 #[test]
@@ -137,5 +137,5 @@ fn reports_let_go(rt: HostRuntime) {
     };
     assert!(rt; sink.take(report(1, 1, 0)));
     assert!(rt; sink.take(paste_event(b"a")));
-    assert!(rt; sink.inner.as_slice() == b"paste\t61\n");
+    assert!(rt; sink.inner.as_slice() == b"paste\t61\n".as_slice());
 }
