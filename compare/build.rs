@@ -17,10 +17,10 @@ fn main() {
     println!("cargo::rerun-if-changed=build.rs");
     println!("cargo::rerun-if-env-changed={KIT}");
     let compare = PathBuf::from(env::var_os("CARGO_MANIFEST_DIR").expect("cargo sets it"));
-    let folder = compare.join("../target/staticlib");
+    let crates = compare.join("../crates");
     for (feature, library) in LIBRARIES {
         if env::var_os(feature).is_some() {
-            link(&folder, library);
+            link(&crates.join(library).join("out"), library);
         }
     }
 }
@@ -32,8 +32,10 @@ fn link(folder: &Path, library: &str) {
     println!("cargo::rerun-if-changed={}", file.display());
     // The C code that a library of the kit may call, as for the heap.
     if let Some(kit) = env::var_os(KIT) {
-        let kit = PathBuf::from(kit).join("lib");
+        let kit = PathBuf::from(kit).join("c");
         println!("cargo::rustc-link-search=native={}", kit.display());
-        println!("cargo::rustc-link-lib=static=rattle_c");
+        for library in ["os_c", "libc_c"] {
+            println!("cargo::rustc-link-lib=static={library}");
+        }
     }
 }
