@@ -1,6 +1,6 @@
 // The lines of presses and reports.
 ghost use Rattle.std.specs.Prelude.{◌≡◌, ◌+◌, ◌≤◌, ◌∷◌, ◌++◌};
-ghost use Rattle.events.specs.Told.{key as keyTold, report as reportTold};
+ghost use Rattle.events.specs.Told.{key as key_told, report as report_told};
 ghost use Rattle.keycode.specs.Modifiers.{unplaced};
 ghost use Rattle.keycode.specs.Names.{name_of};
 ghost use Rattle.lines.specs.Mods.{mods_text};
@@ -64,7 +64,7 @@ fn number_field(out: &mut Buf, key: KeyCode)
 
 // The line of a press: key, its name, its modifiers and its number.
 pub fn key_line(event: KeyEvent) -> Buf
-    ensures value { held result ≡ line_of (keyTold event) }
+    ensures value { held result ≡ line_of (key_told event) }
     ensures len { result.len ≤ 40 }
     ensures room { Sized (number_of event.key) }
 {
@@ -89,7 +89,7 @@ fn decimal_field(out: &mut Buf, n: u16)
 
 // The line of a report: report, its kind and its two numbers.
 pub fn report_line(report: Report) -> Buf
-    ensures { held result ≡ line_of (reportTold report) }
+    ensures { held result ≡ line_of (report_told report) }
 {
     let mut out = Buf::new();
     out.extend(b"report");

@@ -1,6 +1,6 @@
 // Lines written behind one another.
 ghost use Rattle.std.specs.Prelude.{◌≡◌, ℕ, ◌+◌, ◌*◌, ◌<◌, ◌≤◌, true, false, List, [], ◌∷◌, ◌++◌, length, Some, None};
-ghost use Rattle.events.specs.Told.{paste as pasteTold};
+ghost use Rattle.events.specs.Told.{paste as paste_told};
 ghost use Rattle.writer.specs.Numbers.{hex_of};
 ghost use Rattle.linewriter.specs.Lines.{line_of, behind, line_offer};
 ghost use Rattle.linewriter.specs.Output.{so_far};
@@ -84,8 +84,8 @@ impl LineWriter {
 
     // The line of a pasted text, if it fits.
     fn write_paste(&mut self, text: &[u8]) -> bool
-        ensures after { result ≡ true → behind (so_far self.old) (line_of (pasteTold text.now)) ≡ Some (so_far self.new) }
-        ensures stays { result ≡ false → (behind (so_far self.old) (line_of (pasteTold text.now)) ≡ None) × (self.new ≡ self.old) }
+        ensures after { result ≡ true → behind (so_far self.old) (line_of (paste_told text.now)) ≡ Some (so_far self.new) }
+        ensures stays { result ≡ false → (behind (so_far self.old) (line_of (paste_told text.now)) ≡ None) × (self.new ≡ self.old) }
     {
         let room = CAPACITY - self.len;
         if text.len() > room || 2 * text.len() + PASTE_FRAME > room {

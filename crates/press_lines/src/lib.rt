@@ -2,7 +2,7 @@
 #![tactic(auto)]
 
 ghost use Rattle.std.specs.Prelude.{◌≡◌, Ok};
-ghost use Rattle.events.specs.Told.{key as keyTold};
+ghost use Rattle.events.specs.Told.{key as key_told};
 ghost use Rattle.keymap.specs.Stored.{value_of};
 ghost use Rattle.lines.specs.Requests.{request_in};
 ghost use Rattle.lines.specs.declared.request.Request.TheVariants.{Press};
@@ -18,7 +18,7 @@ use writer::Buf;
 // A press as a line of a script, without an LF: its own line, with press in place of key. Read by the verbs and the names of
 // the script language, it asks for the same press, less the modifiers that name a side.
 pub fn press_line(event: KeyEvent) -> Buf
-    ensures value { held result ≡ as_press (line_of (keyTold event)) }
+    ensures value { held result ≡ as_press (line_of (key_told event)) }
     ensures back { request_in (value_of verb_words) (value_of key_words) (held result) ≡ Ok (Press (unsided event)) }
 {
     let whole = key_line(event);
