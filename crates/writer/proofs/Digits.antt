@@ -14,7 +14,7 @@ module _ (base : ℕ) (big : 1 < base) where
   unfolding digits_in
   further k n h = ap (λ b. cond b (hex_digit n ∷ []) (digits_in base k (n / base) ++ (hex_digit (n % base) ∷ []))) (le-ltb n base h)
 
-  less : (n : ℕ) → base ≤ n → n / base < n
+  pub less : (n : ℕ) → base ≤ n → n / base < n
   less n h = div-lt_self (omega arith) big
 
   -- any two numbers of steps that suffice give the same digits

@@ -1,8 +1,6 @@
-// A small buffer and the numbers that keys and lines are written with.
+// Numbers and characters as bytes, written behind what a vector of fixed capacity holds.
 #![tactic(auto)]
 
-mod buf;
 mod write;
 
-pub use buf::Buf;
-pub use write::{decimal, hex, hex_digit, hexadecimal, utf8};
+pub use write::{decimal, extend, hex, hex_digit, hexadecimal, utf8, written};

@@ -3,11 +3,11 @@ use Rattle.writer.proofs.Digits.{hex_more, hex_all}
 use Rattle.writer.proofs.write.hex.Goals as goal
 
 pub loop-b-preserved : goal.loop-b-preserved
-loop-b-preserved c =
+loop-b-preserved g c =
     let e = hex_more c.args.bytes.now c.loop-b.b-index (omega arith) in
     (grind (arith, e, append_assoc), omega arith)
 
 pub returns : goal.returns
-returns c =
+returns g c =
     let e = hex_all c.args.bytes.now c.loop-b.b-index (omega arith) in
-    record { bytes = grind (arith, e, append-nil); len = omega arith }
+    grind (arith, e, append-nil)

@@ -1,4 +1,0 @@
-use Rattle.writer.proofs.write.+hexadecimal.Given as goal
-
-abbrev pub decreases-hexadecimal : goal.decreases-hexadecimal
-decreases-hexadecimal l = l.n
