@@ -1,7 +1,7 @@
 // What the modes say of characters.
 
 // The level of modifyOtherKeys.
-#[derive(Clone, Copy)]
+#[derive(Clone, Copy, Debug, PartialEq, Eq)]
 pub enum Level {
     Off,
     One,
@@ -10,7 +10,7 @@ pub enum Level {
 }
 
 // How a modified character is sent: CSI c ; n u, CSI 27 ; n ; c ~, or as terminals have always sent it.
-#[derive(Clone, Copy)]
+#[derive(Clone, Copy, Debug, PartialEq, Eq)]
 pub enum Route {
     Unicode,
     Numbered,

@@ -1,8 +1,8 @@
 // What the modes ask for.
 ghost use Rattle.std.specs.Prelude.{◌≡◌};
-ghost use Rattle.character.specs.Typed.{level_of, is_two, is_csi_u, level_route, route_of, claimed};
+ghost use Rattle.character.specs.Typed.{level_of, level_route, route_of, claimed};
 
-use crate::control::{is_ambiguous_ascii_ctrl, is_upper, is_well_known};
+use crate::control::{is_ambiguous_ascii_ctrl, is_well_known};
 use crate::level::{Level, Route};
 use keycode::{KeyCodeEncodeModes, KeyboardEncoding};
 
@@ -11,54 +11,28 @@ pub fn level_of(value: Option<i64>) -> Level
     ensures { result ≡ level_of value }
 {
     match value {
-        None => Level::Off,
-        Some(n) => {
-            if n == 0 {
-                Level::Off
-            } else if n == 1 {
-                Level::One
-            } else if n == 2 {
-                Level::Two
-            } else {
-                Level::Other
-            }
-        }
+        None | Some(0) => Level::Off,
+        Some(1) => Level::One,
+        Some(2) => Level::Two,
+        Some(_) => Level::Other,
     }
 }
 
-fn is_two(level: Level) -> bool
-    ensures { result ≡ is_two level }
-{
-    matches!(level, Level::Two)
-}
-
-fn is_csi_u(encoding: KeyboardEncoding) -> bool
-    ensures { result ≡ is_csi_u encoding }
-{
-    matches!(encoding, KeyboardEncoding::CsiU)
-}
-
-fn level_route(level: Level, c: u32) -> Route
+fn level_route(level: Level, c: char) -> Route
     ensures { result ≡ level_route level c }
 {
     match level {
         Level::Off => Route::Traditional,
-        Level::One => {
-            if is_well_known(c) {
-                Route::Traditional
-            } else {
-                Route::Numbered
-            }
-        }
-        Level::Two | Level::Other => Route::Numbered,
+        Level::One if is_well_known(c) => Route::Traditional,
+        Level::One | Level::Two | Level::Other => Route::Numbered,
     }
 }
 
 // How a modified character is sent.
-pub(crate) fn route(c: u32, modes: KeyCodeEncodeModes) -> Route
+pub(crate) fn route(c: char, modes: KeyCodeEncodeModes) -> Route
     ensures { result ≡ route_of c modes }
 {
-    if is_csi_u(modes.encoding) && c < 0x80 {
+    if matches!(modes.encoding, KeyboardEncoding::CsiU) && c.is_ascii() {
         Route::Unicode
     } else {
         level_route(level_of(modes.modify_other_keys), c)
@@ -66,11 +40,11 @@ pub(crate) fn route(c: u32, modes: KeyCodeEncodeModes) -> Route
 }
 
 // Whether CTRL with this character is sent as a modified character, whatever its control character.
-pub(crate) fn is_claimed(c: u32, modes: KeyCodeEncodeModes) -> bool
+pub(crate) fn is_claimed(c: char, modes: KeyCodeEncodeModes) -> bool
     ensures { result ≡ claimed c modes }
 {
-    if is_csi_u(modes.encoding) && is_ambiguous_ascii_ctrl(c) {
+    if matches!(modes.encoding, KeyboardEncoding::CsiU) && is_ambiguous_ascii_ctrl(c) {
         return true;
     }
-    is_upper(c) || is_two(level_of(modes.modify_other_keys))
+    c.is_ascii_uppercase() || level_of(modes.modify_other_keys) == Level::Two
 }

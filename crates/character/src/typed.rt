@@ -1,29 +1,28 @@
 // The bytes of a character.
-ghost use Rattle.std.specs.Prelude.{◌≡◌, ℕ, ◌+◌, ◌<◌, ◌≤◌, [], ◌∷◌, ◌++◌};
+ghost use Rattle.std.specs.Prelude.{◌≡◌};
 ghost use Rattle.character.specs.Typed.{control_of, traditionally, by_route, other_key, keeps, shifted, unshown, typed};
 ghost use Rattle.character.specs.declared.level.Route.TheVariants.{Unicode, Numbered};
-ghost use Rattle.writer.specs.Held.{held};
 
-use crate::control::{ctrl_code, is_graphic, is_lower, owns_shift};
+use crate::control::{ctrl_mapping, owns_shift};
 use crate::level::Route;
 use crate::modes::{is_claimed, route};
-use crate::parts::{push_escape_for_alt, push_parameter};
+use crate::parts::{Sequence, escape_for_alt, push_parameter};
 use keycode::{KeyCodeEncodeModes, Modifiers};
-use writer::{Buf, decimal, utf8};
+use writer::{decimal, utf8, written};
 
 // SHIFT makes an uppercase letter of a lowercase one.
-fn normalize_shift_to_upper_case(c: u32, mods: Modifiers) -> u32
+fn normalize_shift_to_upper_case(c: char, mods: Modifiers) -> char
     ensures { result ≡ shifted c mods.0 }
 {
-    if mods.contains(Modifiers::SHIFT) && is_lower(c) {
-        c - 32
+    if mods.contains(Modifiers::SHIFT) {
+        c.to_ascii_uppercase()
     } else {
         c
     }
 }
 
 // SHIFT is dropped where the character shows it.
-fn drop_shown_shift(c: u32, mods: Modifiers) -> Modifiers
+fn drop_shown_shift(c: char, mods: Modifiers) -> Modifiers
     ensures { result.0 ≡ unshown c mods.0 }
 {
     if mods.contains(Modifiers::SHIFT) && owns_shift(c) {
@@ -34,101 +33,94 @@ fn drop_shown_shift(c: u32, mods: Modifiers) -> Modifiers
 }
 
 // The control character of a press, if CTRL is held and there is one.
-fn control_of(c: u32, mods: Modifiers) -> Option<u8>
+fn control_of(c: char, mods: Modifiers) -> Option<u8>
     ensures { result ≡ control_of c mods.0 }
 {
     if mods.contains(Modifiers::CTRL) {
-        ctrl_code(c)
+        ctrl_mapping(c)
     } else {
         None
     }
 }
 
 // Whether a press keeps the form that terminals have always sent.
-fn keeps_its_form(c: u32, mods: Modifiers, modes: KeyCodeEncodeModes) -> bool
+fn keeps_its_form(c: char, mods: Modifiers, modes: KeyCodeEncodeModes) -> bool
     ensures { result ≡ keeps c mods.0 modes }
 {
     let ctrl = mods.contains(Modifiers::CTRL);
     if ctrl && is_claimed(c, modes) {
         return false;
     }
-    if ctrl && ctrl_code(c).is_some() {
+    if ctrl && ctrl_mapping(c).is_some() {
         return true;
     }
-    if mods.contains(Modifiers::ALT) && is_graphic(c) {
+    if mods.contains(Modifiers::ALT) && c.is_ascii_graphic() {
         return true;
     }
     mods.is_empty()
 }
 
 // ESC for ALT, then the control character under CTRL, else the character.
-fn push_traditionally(out: &mut Buf, c: u32, mods: Modifiers)
-    requires room { out.old.len ≤ 32 }
-    requires plane { c < 1114112 }
-    ensures bytes { held out.new ≡ held out.old ++ traditionally c mods.0 }
-    ensures len { out.new.len ≤ out.old.len + 15 }
+#[tactic(auto, unfolding(crate::specs::Typed::traditionally))]
+fn traditionally(c: char, mods: Modifiers) -> Sequence
+    ensures { result.items ≡ traditionally c mods.0 }
 {
-    push_escape_for_alt(out, mods);
+    let mut out = escape_for_alt(mods);
     match control_of(c, mods) {
         Some(k) => out.push(k),
-        None => utf8(out, c),
+        None => utf8(&mut out, c),
     }
+    out
 }
 
 // CSI c ; n u
-fn push_unicode(out: &mut Buf, c: u32, mods: Modifiers)
-    requires room { out.old.len ≤ 32 }
-    requires plane { c < 1114112 }
-    ensures bytes { held out.new ≡ held out.old ++ by_route Unicode c mods.0 }
-    ensures len { out.new.len ≤ out.old.len + 15 }
+#[tactic(auto, using(writer::proofs::Digits::dec_scalar))]
+fn unicode(c: char, mods: Modifiers) -> Sequence
+    ensures { result.items ≡ by_route Unicode c mods.0 }
 {
-    out.extend(b"\x1b[");
-    decimal(out, c);
+    let mut out = written(b"\x1b[");
+    decimal(&mut out, c as u32);
     out.push(b';');
-    push_parameter(out, mods);
+    push_parameter(&mut out, mods);
     out.push(b'u');
+    out
 }
 
 // CSI 27 ; n ; c ~
-fn push_numbered(out: &mut Buf, c: u32, mods: Modifiers)
-    requires room { out.old.len ≤ 32 }
-    requires plane { c < 1114112 }
-    ensures bytes { held out.new ≡ held out.old ++ by_route Numbered c mods.0 }
-    ensures len { out.new.len ≤ out.old.len + 15 }
+#[tactic(auto, using(writer::proofs::Digits::dec_scalar))]
+fn numbered(c: char, mods: Modifiers) -> Sequence
+    ensures { result.items ≡ by_route Numbered c mods.0 }
 {
-    out.extend(b"\x1b[27;");
-    push_parameter(out, mods);
+    let mut out = written(b"\x1b[27;");
+    push_parameter(&mut out, mods);
     out.push(b';');
-    decimal(out, c);
+    decimal(&mut out, c as u32);
     out.push(b'~');
+    out
 }
 
 // A modified character, as the modes ask.
-pub fn csi_u_encode(out: &mut Buf, c: u32, mods: Modifiers, modes: KeyCodeEncodeModes)
-    requires room { out.old.len ≤ 32 }
-    requires plane { c < 1114112 }
-    ensures bytes { held out.new ≡ held out.old ++ other_key c mods.0 modes }
-    ensures len { out.new.len ≤ out.old.len + 15 }
+#[tactic(auto, unfolding(crate::specs::Typed::other_key))]
+pub fn csi_u_encode(c: char, mods: Modifiers, modes: KeyCodeEncodeModes) -> Sequence
+    ensures { result.items ≡ other_key c mods.0 modes }
 {
     match route(c, modes) {
-        Route::Unicode => push_unicode(out, c, mods),
-        Route::Numbered => push_numbered(out, c, mods),
-        Route::Traditional => push_traditionally(out, c, mods),
+        Route::Unicode => unicode(c, mods),
+        Route::Numbered => numbered(c, mods),
+        Route::Traditional => traditionally(c, mods),
     }
 }
 
 // A character under its modifiers.
-pub fn push_character(out: &mut Buf, c: u32, mods: Modifiers, modes: KeyCodeEncodeModes)
-    requires room { out.old.len ≤ 32 }
-    requires plane { c < 1114112 }
-    ensures bytes { held out.new ≡ held out.old ++ typed c mods.0 modes }
-    ensures len { out.new.len ≤ out.old.len + 15 }
+#[tactic(auto, unfolding(crate::specs::Typed::typed))]
+pub fn encode_character(c: char, mods: Modifiers, modes: KeyCodeEncodeModes) -> Sequence
+    ensures { result.items ≡ typed c mods.0 modes }
 {
     let c = normalize_shift_to_upper_case(c, mods);
     let mods = drop_shown_shift(c, mods);
     if keeps_its_form(c, mods, modes) {
-        push_traditionally(out, c, mods);
+        traditionally(c, mods)
     } else {
-        csi_u_encode(out, c, mods, modes);
+        csi_u_encode(c, mods, modes)
     }
 }

@@ -95,6 +95,14 @@ dec_more_length n h = ap length (dec_more n h) ∙ length-append (dec (n / 10)) 
 pub dec_short : (k n : ℕ) → n < 10 ^ suc k → length (dec n) ≤ suc k
 dec_short k n h = omega (arith, ap length (dec_in_base n), base_short 10 (lit< tt) k n h)
 
+-- one digit
+pub dec_digit : (n : ℕ) → n < 10 → length (dec n) ≡ 1
+dec_digit n h = ap length (dec_one n h)
+
+-- the number of a character has at most seven digits
+pub dec_scalar : (c : ℕ) → c < 1114112 → length (dec c) ≤ 7
+dec_scalar c h = dec_short 6 c (omega (arith, h))
+
 pub hex_short : (k n : ℕ) → n < 16 ^ suc k → length (hex_num n) ≤ suc k
 hex_short k n h = base_short 16 (lit< tt) k n h
 

@@ -8,7 +8,8 @@ use arrayvec::ArrayVec;
 // All bytes of a text.
 pub fn extend<const N: usize>(out: &mut ArrayVec<u8, N>, text: &[u8])
     requires { array_vec_len out.old + length text.now ≤ N }
-    ensures { out.new.items ≡ out.old.items ++ text.now }
+    ensures bytes { out.new.items ≡ out.old.items ++ text.now }
+    ensures len { array_vec_len out.new ≡ array_vec_len out.old + length text.now }
 {
     // There is room, so this is not refused.
     let _ = out.try_extend_from_slice(text);
@@ -42,7 +43,8 @@ fn numeral(n: u32, base: u32) -> ArrayVec<u8, 10>
 // A number in decimal.
 pub fn decimal<const N: usize>(out: &mut ArrayVec<u8, N>, n: u32)
     requires { array_vec_len out.old + length (dec n) ≤ N }
-    ensures { out.new.items ≡ out.old.items ++ dec n }
+    ensures bytes { out.new.items ≡ out.old.items ++ dec n }
+    ensures len { array_vec_len out.new ≡ array_vec_len out.old + length (dec n) }
 {
     extend(out, numeral(n, 10).as_slice());
 }
@@ -50,7 +52,8 @@ pub fn decimal<const N: usize>(out: &mut ArrayVec<u8, N>, n: u32)
 // A number in hexadecimal.
 pub fn hexadecimal<const N: usize>(out: &mut ArrayVec<u8, N>, n: u32)
     requires { array_vec_len out.old + length (hex_num n) ≤ N }
-    ensures { out.new.items ≡ out.old.items ++ hex_num n }
+    ensures bytes { out.new.items ≡ out.old.items ++ hex_num n }
+    ensures len { array_vec_len out.new ≡ array_vec_len out.old + length (hex_num n) }
 {
     extend(out, numeral(n, 16).as_slice());
 }
@@ -58,7 +61,8 @@ pub fn hexadecimal<const N: usize>(out: &mut ArrayVec<u8, N>, n: u32)
 // A character in UTF-8.
 pub fn utf8<const N: usize>(out: &mut ArrayVec<u8, N>, c: char)
     requires { array_vec_len out.old + length (utf8_of c) ≤ N }
-    ensures { out.new.items ≡ out.old.items ++ utf8_of c }
+    ensures bytes { out.new.items ≡ out.old.items ++ utf8_of c }
+    ensures len { array_vec_len out.new ≡ array_vec_len out.old + length (utf8_of c) }
 {
     let mut bytes = [0; 4];
     extend(out, c.encode_utf8(&mut bytes).as_bytes());
@@ -75,7 +79,8 @@ pub fn hex_digit(d: u8) -> u8
 // Bytes in hexadecimal.
 pub fn hex<const N: usize>(out: &mut ArrayVec<u8, N>, bytes: &[u8])
     requires { array_vec_len out.old + 2 * length bytes.now ≤ N }
-    ensures { out.new.items ≡ out.old.items ++ hex_of bytes.now }
+    ensures bytes { out.new.items ≡ out.old.items ++ hex_of bytes.now }
+    ensures len { array_vec_len out.new ≡ array_vec_len out.old + 2 * length bytes.now }
 {
     for b in bytes {
         out.push(hex_digit(*b / 16));
