@@ -10,5 +10,5 @@ mod typed;
 pub use control::ctrl_mapping;
 pub use level::{Level, Route};
 pub use modes::level_of;
-pub use parts::{LONGEST, Sequence, escape_for_alt, push_parameter};
+pub use parts::{ESC, LONGEST, Sequence, escape_for_alt, push_parameter};
 pub use typed::{csi_u_encode, encode_character};

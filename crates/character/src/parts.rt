@@ -7,6 +7,8 @@ use arrayvec::ArrayVec;
 use keycode::Modifiers;
 use writer::{decimal, written};
 
+pub const ESC: u8 = 0x1b;
+
 // The most bytes of a press.
 pub const LONGEST: usize = 15;
 

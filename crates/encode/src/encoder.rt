@@ -1,70 +1,53 @@
 // A press to bytes, or a refusal.
-ghost use Rattle.std.specs.Prelude.{◌≡◌, ℕ, ◌+◌, ◌<◌, ◌≤◌, false, cond, [], ◌∷◌, ◌++◌, length, is_some, IfOk};
+ghost use Rattle.std.specs.Prelude.{◌≡◌, ◌<◌, ◌≤◌, false, cond, [], ◌∷◌, length, None, IfOk};
 ghost use Rattle.encode.specs.Forms.{form_of};
-ghost use Rattle.encode.specs.Pressed.{backspace, own_character, tab_under, is_on, tab, by_form, pressed};
+ghost use Rattle.encode.specs.Pressed.{backspace, own_character, tab_under, tab, by_form, pressed};
 ghost use Rattle.encode.specs.Encoding.{number, form_fault, press_fault, sent, is_short, delivered, unless, encoding};
-ghost use Rattle.character.specs.Characters.{scalar};
-ghost use Rattle.writer.specs.Held.{held};
 
 use crate::form::{EncodeFault, Form};
 use crate::keys::form_of;
-use crate::sequences::{push_function_key, push_letter_key, push_number_key};
-use character::{ESC, Level, csi_u_encode, level_of, push_character, push_escape_for_alt};
+use crate::sequences::{function_key, letter_key, number_key};
+use character::{ESC, Level, Sequence, csi_u_encode, encode_character, escape_for_alt, level_of};
 use keycode::{KeyCode, KeyCodeEncodeModes, Modifiers};
-use writer::Buf;
+use writer::extend;
 
 impl EncodeFault {
     // The number by which the refusal is told.
     pub fn number(self) -> u8
         ensures { result ≡ number self }
     {
-        match self {
-            EncodeFault::Modifiers => 7,
-            EncodeFault::NoScalar => 8,
-            EncodeFault::NoFunction => 9,
-            EncodeFault::OutputShort => 10,
-        }
+        self as u8
     }
 }
 
 // Backspace sends DEL; CTRL and SHIFT make it a modified character.
-fn push_backspace(out: &mut Buf, mods: Modifiers, modes: KeyCodeEncodeModes)
-    requires { out.old.len ≤ 32 }
-    ensures bytes { held out.new ≡ held out.old ++ backspace mods.0 modes }
-    ensures len { out.new.len ≤ out.old.len + 15 }
+#[tactic(auto, unfolding(crate::specs::Pressed::backspace))]
+fn backspace(mods: Modifiers, modes: KeyCodeEncodeModes) -> Sequence
+    ensures { result.items ≡ backspace mods.0 modes }
 {
     if mods.contains(Modifiers::CTRL) {
-        csi_u_encode(out, 0x08, mods, modes);
-    } else if mods.contains(Modifiers::SHIFT) {
-        csi_u_encode(out, 0x7f, mods, modes);
-    } else {
-        push_escape_for_alt(out, mods);
-        out.push(0x7f);
+        return csi_u_encode('\x08', mods, modes);
     }
+    if mods.contains(Modifiers::SHIFT) {
+        return csi_u_encode('\x7f', mods, modes);
+    }
+    let mut out = escape_for_alt(mods);
+    out.push(0x7f);
+    out
 }
 
 // Enter and Escape: `text` as it is, or the character `c` modified.
-fn push_own_character(
-    out: &mut Buf,
-    c: u32,
-    text: &[u8],
-    mods: Modifiers,
-    modes: KeyCodeEncodeModes,
-)
-    requires room { out.old.len ≤ 32 }
-    requires short { length text.now ≤ 2 }
-    requires plane { c < 1114112 }
-    ensures bytes { held out.new ≡ held out.old ++ own_character c text.now mods.0 modes }
-    ensures len { out.new.len ≤ out.old.len + 15 }
+#[tactic(auto, unfolding(crate::specs::Pressed::own_character))]
+fn own_character(c: char, text: &[u8], mods: Modifiers, modes: KeyCodeEncodeModes) -> Sequence
+    requires { length text.now ≤ 2 }
+    ensures { result.items ≡ own_character c text.now mods.0 modes }
 {
-    if mods.contains(Modifiers::SHIFT) {
-        csi_u_encode(out, c, mods, modes);
-    } else if mods.contains(Modifiers::CTRL) {
-        csi_u_encode(out, c, mods, modes);
-    } else {
-        push_escape_for_alt(out, mods);
-        out.extend(text);
+    if mods.contains(Modifiers::SHIFT) || mods.contains(Modifiers::CTRL) {
+        return csi_u_encode(c, mods, modes);
     }
+    let mut out = escape_for_alt(mods);
+    extend(&mut out, text);
+    out
 }
 
 // Enter's text: CR, and LF behind it in newline mode.
@@ -73,12 +56,6 @@ fn newline_text(newline_mode: bool) -> &'static [u8]
     ensures len { length result.now ≤ 2 }
 {
     if newline_mode { b"\r\n" } else { b"\r" }
-}
-
-fn is_on(level: Level) -> bool
-    ensures { result ≡ is_on level }
-{
-    !matches!(level, Level::Off)
 }
 
 // Tab under a set without ALT.
@@ -94,17 +71,16 @@ fn tab_text(mods: Modifiers) -> &'static [u8]
     }
 }
 
-fn push_tab(out: &mut Buf, mods: Modifiers, modes: KeyCodeEncodeModes)
-    requires { out.old.len ≤ 32 }
-    ensures bytes { held out.new ≡ held out.old ++ tab mods.0 modes }
-    ensures len { out.new.len ≤ out.old.len + 15 }
+#[tactic(auto, unfolding(crate::specs::Pressed::tab))]
+fn tab(mods: Modifiers, modes: KeyCodeEncodeModes) -> Sequence
+    ensures { result.items ≡ tab mods.0 modes }
 {
-    if !mods.is_empty() && is_on(level_of(modes.modify_other_keys)) {
-        csi_u_encode(out, 0x09, mods, modes);
-    } else {
-        push_escape_for_alt(out, mods);
-        out.extend(tab_text(mods.remove(Modifiers::ALT)));
+    if !mods.is_empty() && level_of(modes.modify_other_keys) != Level::Off {
+        return csi_u_encode('\t', mods, modes);
     }
+    let mut out = escape_for_alt(mods);
+    extend(&mut out, tab_text(mods.remove(Modifiers::ALT)));
+    out
 }
 
 // The second byte of a cursor key without modifiers.
@@ -115,80 +91,27 @@ fn cursor_intro(application_cursor_keys: bool) -> u8
 }
 
 // The bytes of a press, by the form of its key.
-fn push_press(out: &mut Buf, form: Form, mods: Modifiers, modes: KeyCodeEncodeModes)
-    requires room { out.old.len ≤ 16 }
-    requires sound { is_some (form_fault form) ≡ false }
-    ensures bytes { held out.new ≡ held out.old ++ by_form form mods.0 modes }
-    ensures len { out.new.len ≤ out.old.len + 15 }
+fn press(form: Form, mods: Modifiers, modes: KeyCodeEncodeModes) -> Sequence
+    requires { form_fault form ≡ None }
+    ensures { result.items ≡ by_form form mods.0 modes }
 {
     match form {
-        Form::Typed(c) => push_character(out, c, mods, modes),
-        Form::Cursor(last) => push_letter_key(
-            out,
-            cursor_intro(modes.application_cursor_keys),
-            last,
-            mods,
-        ),
-        Form::Application(last) => push_letter_key(out, b'O', last, mods),
-        Form::Keypad(last) => push_letter_key(out, b'[', last, mods),
-        Form::Edit(number) => push_number_key(out, number, mods),
-        Form::Numbered(n) => push_function_key(out, n, mods),
-        Form::KeyBackspace => push_backspace(out, mods, modes),
-        Form::KeyEnter => push_own_character(
-            out,
-            0x0d,
-            newline_text(modes.newline_mode),
-            mods,
-            modes,
-        ),
-        Form::KeyEscape => push_own_character(out, 0x1b, &[ESC], mods, modes),
-        Form::KeyTab => push_tab(out, mods, modes),
-        Form::Silent => {}
-    }
-}
-
-// Whether a number is a Unicode scalar value.
-fn is_scalar(c: u32) -> bool
-    ensures { result ≡ scalar c }
-{
-    c < 0xd800 || 0xe000 <= c && c <= 0x10ffff
-}
-
-// What is wrong with a key's own number.
-fn form_fault(form: Form) -> Option<EncodeFault>
-    ensures { result ≡ form_fault form }
-{
-    match form {
-        Form::Typed(c) => {
-            if is_scalar(c) {
-                None
-            } else {
-                Some(EncodeFault::NoScalar)
-            }
-        }
-        Form::Numbered(n) => {
-            if n == 0 || n > 24 {
-                Some(EncodeFault::NoFunction)
-            } else {
-                None
-            }
-        }
-        _ => None,
-    }
-}
-
-// The first cause of a refusal that the press itself gives.
-fn press_fault(form: Form, mods: Modifiers) -> Option<EncodeFault>
-    ensures { result ≡ press_fault form mods.0 }
-{
-    if mods.0 > Modifiers::ALL {
-        Some(EncodeFault::Modifiers)
-    } else {
-        form_fault(form)
+        Form::Typed(c) => encode_character(c, mods, modes),
+        Form::Cursor(last) => letter_key(cursor_intro(modes.application_cursor_keys), last, mods),
+        Form::Application(last) => letter_key(b'O', last, mods),
+        Form::Keypad(last) => letter_key(b'[', last, mods),
+        Form::Edit(number) => number_key(number, mods),
+        Form::Numbered(n) => function_key(n, mods),
+        Form::KeyBackspace => backspace(mods, modes),
+        Form::KeyEnter => own_character('\r', newline_text(modes.newline_mode), mods, modes),
+        Form::KeyEscape => own_character('\x1b', &[ESC], mods, modes),
+        Form::KeyTab => tab(mods, modes),
+        Form::Silent => Sequence::new(),
     }
 }
 
 // Writes the bytes to the front of the output, or refuses and writes nothing.
+#[tactic(auto, unfolding(crate::specs::Encoding::delivered))]
 fn deliver(bytes: &[u8], out: &mut [u8]) -> Result<usize, EncodeFault>
     ensures after { sent result out.new ≡ delivered bytes.now out.old }
     ensures count { IfOk result (λ n. (n ≤ length bytes.now) × (n ≤ length out.old)) }
@@ -203,6 +126,7 @@ fn deliver(bytes: &[u8], out: &mut [u8]) -> Result<usize, EncodeFault>
 }
 
 // The bytes of a key down, or a refusal.
+#[tactic(auto, unfolding(crate::specs::Pressed::pressed))]
 fn encode_down(
     key: KeyCode,
     mods: Modifiers,
@@ -213,13 +137,14 @@ fn encode_down(
     ensures count { IfOk result (λ n. (n ≤ 15) × (n ≤ length out.old)) }
     ensures room { 15 ≤ length out.old → is_short result ≡ false }
 {
-    let form = form_of(key);
-    if let Some(fault) = press_fault(form, mods) {
-        return Err(fault);
+    if mods.0 > Modifiers::ALL {
+        return Err(EncodeFault::Modifiers);
     }
-    let mut bytes = Buf::new();
-    push_press(&mut bytes, form, mods.remove_positional_mods(), modes);
-    deliver(bytes.as_slice(), out)
+    let form = form_of(key)?;
+    deliver(
+        press(form, mods.remove_positional_mods(), modes).as_slice(),
+        out,
+    )
 }
 
 // The bytes that a terminal sends for a key, to the front of the output, and their count; or a refusal, which leaves the

@@ -1,10 +1,10 @@
 // The ways of sending a key, and the causes of a refusal.
 
 // The keys by how they are sent: a character, a final letter, a number before `~`, a key of its own, or nothing.
-#[derive(Clone, Copy)]
+#[derive(Clone, Copy, Debug, PartialEq, Eq)]
 pub(crate) enum Form {
     // a character
-    Typed(u32),
+    Typed(char),
     // a final letter: cursor keys, Home and End, by SS3 where the cursor keys are in application mode
     Cursor(u8),
     // a final letter, by SS3 in every mode
@@ -23,21 +23,21 @@ pub(crate) enum Form {
     Silent,
 }
 
-// Why a press is not encoded, in the order in which the causes are looked for.
-#[derive(Clone, Copy)]
+// Why a press is not encoded, by the number that tells it, in the order in which the causes are looked for.
+#[derive(Clone, Copy, Debug, PartialEq, Eq)]
 pub enum EncodeFault {
     // modifiers over 2,047
-    Modifiers,
+    Modifiers = 7,
     // a Char that is no Unicode scalar value
-    NoScalar,
+    NoScalar = 8,
     // Function 0, or over 24
-    NoFunction,
+    NoFunction = 9,
     // the output is shorter than the bytes
-    OutputShort,
+    OutputShort = 10,
 }
 
 // Under which modifiers a key is a plain press.
-#[derive(Clone, Copy)]
+#[derive(Clone, Copy, Debug, PartialEq, Eq)]
 pub(crate) enum Plainness {
     // a character, as its own rule says
     Character(u32),

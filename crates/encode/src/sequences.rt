@@ -1,11 +1,11 @@
-// Control sequences, written behind what a buffer holds.
+// Control sequences.
 ghost use Rattle.std.specs.Prelude.{◌≡◌, ℕ, ◌+◌, ◌≤◌, [], ◌∷◌, ◌++◌};
+ghost use Rattle.arrayvec.specs.ArrayVec.{array_vec_len};
 ghost use Rattle.encode.specs.Sequences.{modified, lettered, letter_key, number_parameter, number_key, function_key};
-ghost use Rattle.writer.specs.Held.{held};
 
-use character::{ESC, push_parameter};
+use character::{ESC, Sequence, push_parameter};
 use keycode::Modifiers;
-use writer::{Buf, decimal};
+use writer::{decimal, written};
 
 // The numbers of Function 5 to 24.
 const FUNCTION_CODES: [u8; 20] = [
@@ -20,34 +20,32 @@ fn is_modified(mods: Modifiers) -> bool
 }
 
 // CSI 1 ; n and a final letter.
-fn push_lettered(out: &mut Buf, last: u8, mods: Modifiers)
-    requires { out.old.len ≤ 32 }
-    ensures bytes { held out.new ≡ held out.old ++ lettered last mods.0 }
-    ensures len { out.new.len ≤ out.old.len + 15 }
+fn lettered(last: u8, mods: Modifiers) -> Sequence
+    ensures { result.items ≡ lettered last mods.0 }
 {
-    out.extend(b"\x1b[1;");
-    push_parameter(out, mods);
+    let mut out = written(b"\x1b[1;");
+    push_parameter(&mut out, mods);
     out.push(last);
+    out
 }
 
 // A key with a final letter: `intro` is the second byte where no modifier is held, `[` or `O`.
-pub(crate) fn push_letter_key(out: &mut Buf, intro: u8, last: u8, mods: Modifiers)
-    requires { out.old.len ≤ 32 }
-    ensures bytes { held out.new ≡ held out.old ++ letter_key (27 ∷ intro ∷ last ∷ []) last mods.0 }
-    ensures len { out.new.len ≤ out.old.len + 15 }
+#[tactic(auto, unfolding(crate::specs::Sequences::letter_key))]
+pub(crate) fn letter_key(intro: u8, last: u8, mods: Modifiers) -> Sequence
+    ensures { result.items ≡ letter_key (27 ∷ intro ∷ last ∷ []) last mods.0 }
 {
     if is_modified(mods) {
-        push_lettered(out, last, mods);
+        lettered(last, mods)
     } else {
-        out.extend(&[ESC, intro, last]);
+        written(&[ESC, intro, last])
     }
 }
 
 // The parameter of a key with a number, where a modifier is held.
-fn push_number_parameter(out: &mut Buf, mods: Modifiers)
-    requires { out.old.len + 2 ≤ 64 }
-    ensures bytes { held out.new ≡ held out.old ++ number_parameter mods.0 }
-    ensures len { out.new.len ≤ out.old.len + 2 }
+fn push_number_parameter(out: &mut Sequence, mods: Modifiers)
+    requires { array_vec_len out.old + 2 ≤ 15 }
+    ensures bytes { out.new.items ≡ out.old.items ++ number_parameter mods.0 }
+    ensures len { array_vec_len out.new ≤ array_vec_len out.old + 2 }
 {
     if is_modified(mods) {
         out.push(b';');
@@ -56,29 +54,28 @@ fn push_number_parameter(out: &mut Buf, mods: Modifiers)
 }
 
 // A key with a number.
-pub(crate) fn push_number_key(out: &mut Buf, number: u8, mods: Modifiers)
-    requires { out.old.len ≤ 32 }
-    ensures bytes { held out.new ≡ held out.old ++ number_key number mods.0 }
-    ensures len { out.new.len ≤ out.old.len + 15 }
+#[tactic(auto, using(writer::proofs::Digits::dec_byte), unfolding(crate::specs::Sequences::number_key))]
+pub(crate) fn number_key(number: u8, mods: Modifiers) -> Sequence
+    ensures { result.items ≡ number_key number mods.0 }
 {
-    out.extend(b"\x1b[");
-    decimal(out, number as u32);
-    push_number_parameter(out, mods);
+    let mut out = written(b"\x1b[");
+    decimal(&mut out, number as u32);
+    push_number_parameter(&mut out, mods);
     out.push(b'~');
+    out
 }
 
 // A function key.
-pub(crate) fn push_function_key(out: &mut Buf, n: u8, mods: Modifiers)
-    requires room { out.old.len ≤ 32 }
-    requires number { (1 ≤ n) × (n ≤ 24) }
-    ensures bytes { held out.new ≡ held out.old ++ function_key n mods.0 }
-    ensures len { out.new.len ≤ out.old.len + 15 }
+#[tactic(auto, unfolding(crate::specs::Sequences::function_key, crate::specs::Sequences::function_codes))]
+pub(crate) fn function_key(n: u8, mods: Modifiers) -> Sequence
+    requires { (1 ≤ n) × (n ≤ 24) }
+    ensures { result.items ≡ function_key n mods.0 }
 {
     if n >= 5 {
-        push_number_key(out, FUNCTION_CODES[n as usize - 5], mods);
+        number_key(FUNCTION_CODES[n as usize - 5], mods)
     } else if mods.is_empty() {
-        out.extend(&[ESC, b'O', b'O' + n]);
+        written(&[ESC, b'O', b'O' + n])
     } else {
-        push_lettered(out, b'O' + n, mods);
+        lettered(b'O' + n, mods)
     }
 }
