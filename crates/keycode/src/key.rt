@@ -2,7 +2,7 @@
 use crate::modifiers::Modifiers;
 
 // A key by its name. `Char` holds a character's number, `Function` the number on a function key.
-#[derive(Clone, Copy)]
+#[derive(Clone, Copy, PartialEq, Eq, Debug)]
 pub enum KeyCode {
     Char(u32),
     Hyper,
@@ -96,7 +96,7 @@ pub enum KeyCode {
     InternalPasteEnd,
 }
 // A press as the decoder gives it and the encoder takes it.
-#[derive(Clone, Copy)]
+#[derive(Clone, Copy, PartialEq, Eq, Debug)]
 pub struct KeyEvent {
     pub key: KeyCode,
     pub modifiers: Modifiers,

@@ -9,4 +9,4 @@ mod names;
 pub use key::{KeyCode, KeyEvent};
 pub use modes::{KeyCodeEncodeModes, KeyboardEncoding, KittyKeyboardFlags};
 pub use modifiers::Modifiers;
-pub use names::{COUNT, key_at, key_named, name_of, place};
+pub use names::{COUNT, KEYS, key_at, key_named, name_of, place};

@@ -1,11 +1,11 @@
 // The modes of a terminal that say how its keys are sent.
 
 // What the kitty protocol was asked to report: a set of flags, as its own page numbers them.
-#[derive(Clone, Copy)]
+#[derive(Clone, Copy, PartialEq, Eq, Debug)]
 pub struct KittyKeyboardFlags(pub u16);
 
 // The family of sequences that the terminal sends. Win32 and Kitty send what Xterm sends.
-#[derive(Clone, Copy)]
+#[derive(Clone, Copy, PartialEq, Eq, Debug)]
 pub enum KeyboardEncoding {
     Xterm,
     CsiU,
@@ -13,7 +13,7 @@ pub enum KeyboardEncoding {
     Kitty(KittyKeyboardFlags),
 }
 
-#[derive(Clone, Copy)]
+#[derive(Clone, Copy, PartialEq, Eq, Debug)]
 pub struct KeyCodeEncodeModes {
     pub encoding: KeyboardEncoding,
     pub application_cursor_keys: bool,

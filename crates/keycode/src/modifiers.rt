@@ -1,10 +1,10 @@
 // Sets of modifiers: a number whose bits are the members.
-ghost use Rattle.std.specs.Prelude.{◌≡◌, ◌≤◌, if◌then◌else◌, ◌==◌};
+ghost use Rattle.std.specs.Prelude.{◌≡◌, ◌≤◌, ◌==◌};
 ghost use Rattle.keycode.specs.Members.{members};
 ghost use Rattle.keycode.specs.Modifiers.{has, without, unplaced, xterm_sum};
 
 // SHIFT, ALT, CTRL and SUPER, and seven that say on which side of the keyboard a modifier is held.
-#[derive(Clone, Copy)]
+#[derive(Clone, Copy, PartialEq, Eq, Debug)]
 pub struct Modifiers(pub u16);
 
 impl Modifiers {
@@ -55,7 +55,7 @@ impl Modifiers {
     pub fn is_empty(self) -> bool
         ensures { result ≡ (self.0 == 0) }
     {
-        self.0 == 0
+        self == Modifiers(0)
     }
 
     // Whether all members of the other set are in this one.
@@ -90,14 +90,6 @@ impl Modifiers {
             self.contains(Modifiers::ALT),
             self.contains(Modifiers::CTRL),
         );
-        weight(shift, 1) + weight(alt, 2) + weight(ctrl, 4)
+        shift as u8 + 2 * alt as u8 + 4 * ctrl as u8
     }
-}
-
-// The number of a modifier that is held, else 0.
-fn weight(held: bool, number: u8) -> u8
-    ensures value { result ≡ (if held then number else 0) }
-    ensures most { result ≤ number }
-{
-    if held { number } else { 0 }
 }

@@ -1,201 +1,108 @@
 // The names of the keys, both ways, by one table.
-ghost use Rattle.std.specs.Prelude.{◌≡◌, ◌<◌, [], slice_index_or};
-ghost use Rattle.keycode.specs.Names.{place, names, name_of, key_at, place_named, key_named};
+ghost use Rattle.std.specs.Prelude.{◌≡◌, ◌<◌};
+ghost use Rattle.keycode.specs.Names.{place, name_of, key_at, place_named, key_named};
 
 use crate::key::KeyCode;
 
 // How many keys there are.
 pub const COUNT: usize = 90;
 
-// The names, in the order of `KeyCode`: the one table, by which keys are printed and read.
-const NAMES: [&'static str; 90] = [
-    "Char",
-    "Hyper",
-    "Super",
-    "Meta",
-    "Cancel",
-    "Backspace",
-    "Tab",
-    "Clear",
-    "Enter",
-    "Shift",
-    "Escape",
-    "LeftShift",
-    "RightShift",
-    "Control",
-    "LeftControl",
-    "RightControl",
-    "Alt",
-    "LeftAlt",
-    "RightAlt",
-    "Menu",
-    "LeftMenu",
-    "RightMenu",
-    "Pause",
-    "CapsLock",
-    "PageUp",
-    "PageDown",
-    "End",
-    "Home",
-    "LeftArrow",
-    "RightArrow",
-    "UpArrow",
-    "DownArrow",
-    "Select",
-    "Print",
-    "Execute",
-    "PrintScreen",
-    "Insert",
-    "Delete",
-    "Help",
-    "LeftWindows",
-    "RightWindows",
-    "Applications",
-    "Sleep",
-    "Numpad0",
-    "Numpad1",
-    "Numpad2",
-    "Numpad3",
-    "Numpad4",
-    "Numpad5",
-    "Numpad6",
-    "Numpad7",
-    "Numpad8",
-    "Numpad9",
-    "Multiply",
-    "Add",
-    "Separator",
-    "Subtract",
-    "Decimal",
-    "Divide",
-    "Function",
-    "NumLock",
-    "ScrollLock",
-    "Copy",
-    "Cut",
-    "Paste",
-    "BrowserBack",
-    "BrowserForward",
-    "BrowserRefresh",
-    "BrowserStop",
-    "BrowserSearch",
-    "BrowserFavorites",
-    "BrowserHome",
-    "VolumeMute",
-    "VolumeDown",
-    "VolumeUp",
-    "MediaNextTrack",
-    "MediaPrevTrack",
-    "MediaStop",
-    "MediaPlayPause",
-    "ApplicationLeftArrow",
-    "ApplicationRightArrow",
-    "ApplicationUpArrow",
-    "ApplicationDownArrow",
-    "KeyPadHome",
-    "KeyPadEnd",
-    "KeyPadPageUp",
-    "KeyPadPageDown",
-    "KeyPadBegin",
-    "InternalPasteStart",
-    "InternalPasteEnd",
-];
-
-// The keys, in the same order, with the number 0 where a key holds one.
-const KEYS: [KeyCode; 90] = [
-    KeyCode::Char(0),
-    KeyCode::Hyper,
-    KeyCode::Super,
-    KeyCode::Meta,
-    KeyCode::Cancel,
-    KeyCode::Backspace,
-    KeyCode::Tab,
-    KeyCode::Clear,
-    KeyCode::Enter,
-    KeyCode::Shift,
-    KeyCode::Escape,
-    KeyCode::LeftShift,
-    KeyCode::RightShift,
-    KeyCode::Control,
-    KeyCode::LeftControl,
-    KeyCode::RightControl,
-    KeyCode::Alt,
-    KeyCode::LeftAlt,
-    KeyCode::RightAlt,
-    KeyCode::Menu,
-    KeyCode::LeftMenu,
-    KeyCode::RightMenu,
-    KeyCode::Pause,
-    KeyCode::CapsLock,
-    KeyCode::PageUp,
-    KeyCode::PageDown,
-    KeyCode::End,
-    KeyCode::Home,
-    KeyCode::LeftArrow,
-    KeyCode::RightArrow,
-    KeyCode::UpArrow,
-    KeyCode::DownArrow,
-    KeyCode::Select,
-    KeyCode::Print,
-    KeyCode::Execute,
-    KeyCode::PrintScreen,
-    KeyCode::Insert,
-    KeyCode::Delete,
-    KeyCode::Help,
-    KeyCode::LeftWindows,
-    KeyCode::RightWindows,
-    KeyCode::Applications,
-    KeyCode::Sleep,
-    KeyCode::Numpad0,
-    KeyCode::Numpad1,
-    KeyCode::Numpad2,
-    KeyCode::Numpad3,
-    KeyCode::Numpad4,
-    KeyCode::Numpad5,
-    KeyCode::Numpad6,
-    KeyCode::Numpad7,
-    KeyCode::Numpad8,
-    KeyCode::Numpad9,
-    KeyCode::Multiply,
-    KeyCode::Add,
-    KeyCode::Separator,
-    KeyCode::Subtract,
-    KeyCode::Decimal,
-    KeyCode::Divide,
-    KeyCode::Function(0),
-    KeyCode::NumLock,
-    KeyCode::ScrollLock,
-    KeyCode::Copy,
-    KeyCode::Cut,
-    KeyCode::Paste,
-    KeyCode::BrowserBack,
-    KeyCode::BrowserForward,
-    KeyCode::BrowserRefresh,
-    KeyCode::BrowserStop,
-    KeyCode::BrowserSearch,
-    KeyCode::BrowserFavorites,
-    KeyCode::BrowserHome,
-    KeyCode::VolumeMute,
-    KeyCode::VolumeDown,
-    KeyCode::VolumeUp,
-    KeyCode::MediaNextTrack,
-    KeyCode::MediaPrevTrack,
-    KeyCode::MediaStop,
-    KeyCode::MediaPlayPause,
-    KeyCode::ApplicationLeftArrow,
-    KeyCode::ApplicationRightArrow,
-    KeyCode::ApplicationUpArrow,
-    KeyCode::ApplicationDownArrow,
-    KeyCode::KeyPadHome,
-    KeyCode::KeyPadEnd,
-    KeyCode::KeyPadPageUp,
-    KeyCode::KeyPadPageDown,
-    KeyCode::KeyPadBegin,
-    KeyCode::InternalPasteStart,
-    KeyCode::InternalPasteEnd,
+// The keys and their names, in the order of `KeyCode`, with the number 0 where a key holds one: keys are printed and read by it.
+pub static KEYS: [(KeyCode, &'static str); 90] = [
+    (KeyCode::Char(0), "Char"),
+    (KeyCode::Hyper, "Hyper"),
+    (KeyCode::Super, "Super"),
+    (KeyCode::Meta, "Meta"),
+    (KeyCode::Cancel, "Cancel"),
+    (KeyCode::Backspace, "Backspace"),
+    (KeyCode::Tab, "Tab"),
+    (KeyCode::Clear, "Clear"),
+    (KeyCode::Enter, "Enter"),
+    (KeyCode::Shift, "Shift"),
+    (KeyCode::Escape, "Escape"),
+    (KeyCode::LeftShift, "LeftShift"),
+    (KeyCode::RightShift, "RightShift"),
+    (KeyCode::Control, "Control"),
+    (KeyCode::LeftControl, "LeftControl"),
+    (KeyCode::RightControl, "RightControl"),
+    (KeyCode::Alt, "Alt"),
+    (KeyCode::LeftAlt, "LeftAlt"),
+    (KeyCode::RightAlt, "RightAlt"),
+    (KeyCode::Menu, "Menu"),
+    (KeyCode::LeftMenu, "LeftMenu"),
+    (KeyCode::RightMenu, "RightMenu"),
+    (KeyCode::Pause, "Pause"),
+    (KeyCode::CapsLock, "CapsLock"),
+    (KeyCode::PageUp, "PageUp"),
+    (KeyCode::PageDown, "PageDown"),
+    (KeyCode::End, "End"),
+    (KeyCode::Home, "Home"),
+    (KeyCode::LeftArrow, "LeftArrow"),
+    (KeyCode::RightArrow, "RightArrow"),
+    (KeyCode::UpArrow, "UpArrow"),
+    (KeyCode::DownArrow, "DownArrow"),
+    (KeyCode::Select, "Select"),
+    (KeyCode::Print, "Print"),
+    (KeyCode::Execute, "Execute"),
+    (KeyCode::PrintScreen, "PrintScreen"),
+    (KeyCode::Insert, "Insert"),
+    (KeyCode::Delete, "Delete"),
+    (KeyCode::Help, "Help"),
+    (KeyCode::LeftWindows, "LeftWindows"),
+    (KeyCode::RightWindows, "RightWindows"),
+    (KeyCode::Applications, "Applications"),
+    (KeyCode::Sleep, "Sleep"),
+    (KeyCode::Numpad0, "Numpad0"),
+    (KeyCode::Numpad1, "Numpad1"),
+    (KeyCode::Numpad2, "Numpad2"),
+    (KeyCode::Numpad3, "Numpad3"),
+    (KeyCode::Numpad4, "Numpad4"),
+    (KeyCode::Numpad5, "Numpad5"),
+    (KeyCode::Numpad6, "Numpad6"),
+    (KeyCode::Numpad7, "Numpad7"),
+    (KeyCode::Numpad8, "Numpad8"),
+    (KeyCode::Numpad9, "Numpad9"),
+    (KeyCode::Multiply, "Multiply"),
+    (KeyCode::Add, "Add"),
+    (KeyCode::Separator, "Separator"),
+    (KeyCode::Subtract, "Subtract"),
+    (KeyCode::Decimal, "Decimal"),
+    (KeyCode::Divide, "Divide"),
+    (KeyCode::Function(0), "Function"),
+    (KeyCode::NumLock, "NumLock"),
+    (KeyCode::ScrollLock, "ScrollLock"),
+    (KeyCode::Copy, "Copy"),
+    (KeyCode::Cut, "Cut"),
+    (KeyCode::Paste, "Paste"),
+    (KeyCode::BrowserBack, "BrowserBack"),
+    (KeyCode::BrowserForward, "BrowserForward"),
+    (KeyCode::BrowserRefresh, "BrowserRefresh"),
+    (KeyCode::BrowserStop, "BrowserStop"),
+    (KeyCode::BrowserSearch, "BrowserSearch"),
+    (KeyCode::BrowserFavorites, "BrowserFavorites"),
+    (KeyCode::BrowserHome, "BrowserHome"),
+    (KeyCode::VolumeMute, "VolumeMute"),
+    (KeyCode::VolumeDown, "VolumeDown"),
+    (KeyCode::VolumeUp, "VolumeUp"),
+    (KeyCode::MediaNextTrack, "MediaNextTrack"),
+    (KeyCode::MediaPrevTrack, "MediaPrevTrack"),
+    (KeyCode::MediaStop, "MediaStop"),
+    (KeyCode::MediaPlayPause, "MediaPlayPause"),
+    (KeyCode::ApplicationLeftArrow, "ApplicationLeftArrow"),
+    (KeyCode::ApplicationRightArrow, "ApplicationRightArrow"),
+    (KeyCode::ApplicationUpArrow, "ApplicationUpArrow"),
+    (KeyCode::ApplicationDownArrow, "ApplicationDownArrow"),
+    (KeyCode::KeyPadHome, "KeyPadHome"),
+    (KeyCode::KeyPadEnd, "KeyPadEnd"),
+    (KeyCode::KeyPadPageUp, "KeyPadPageUp"),
+    (KeyCode::KeyPadPageDown, "KeyPadPageDown"),
+    (KeyCode::KeyPadBegin, "KeyPadBegin"),
+    (KeyCode::InternalPasteStart, "InternalPasteStart"),
+    (KeyCode::InternalPasteEnd, "InternalPasteEnd"),
 ];
 
 // The place of a key in `KeyCode`, from 0.
+// A `match`, and no search of `KEYS`: it is one jump, and needs no proof that each key is found.
 pub fn place(key: KeyCode) -> usize
     ensures value { result ≡ place key }
     ensures below { result < 90 }
@@ -294,19 +201,11 @@ pub fn place(key: KeyCode) -> usize
     }
 }
 
-// The name at a place.
-fn name_at(i: usize) -> &'static str
-    requires { i < 90 }
-    ensures { result.now ≡ slice_index_or names i [] }
-{
-    NAMES[i]
-}
-
 // The name of a key, without its number.
 pub fn name_of(key: KeyCode) -> &'static str
     ensures { result.now ≡ name_of key }
 {
-    name_at(place(key))
+    KEYS[place(key)].1
 }
 
 // The key at a place in `KeyCode`, with the number 0 where it holds one.
@@ -314,7 +213,7 @@ pub fn key_at(place: usize) -> Option<KeyCode>
     ensures { result ≡ key_at place }
 {
     if place < COUNT {
-        Some(KEYS[place])
+        Some(KEYS[place].0)
     } else {
         None
     }
@@ -324,20 +223,12 @@ pub fn key_at(place: usize) -> Option<KeyCode>
 fn place_named(name: &[u8]) -> Option<usize>
     ensures { result ≡ place_named name.now }
 {
-    for i in 0..COUNT {
-        if name_at(i).as_bytes() == name {
-            return Some(i);
-        }
-    }
-    None
+    KEYS.iter().position(|(_, text)| text.as_bytes() == name)
 }
 
 // The key of a name, with the number 0 where it holds one.
 pub fn key_named(name: &[u8]) -> Option<KeyCode>
     ensures { result ≡ key_named name.now }
 {
-    match place_named(name) {
-        Some(place) => key_at(place),
-        None => None,
-    }
+    key_at(place_named(name)?)
 }

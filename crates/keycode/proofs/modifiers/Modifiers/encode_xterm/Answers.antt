@@ -4,4 +4,4 @@ use Rattle.keycode.proofs.modifiers.Modifiers.encode_xterm.Goals as goal
 
 pub returns : goal.returns
 unfolding xterm_sum
-returns c = record { value = grind arith; most = omega arith }
+returns c = record { value = grind arith; most = grind arith }
