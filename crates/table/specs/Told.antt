@@ -3,7 +3,6 @@ use Rattle.std.specs.Prelude.{ℕ, ◌*◌, cond, [], length, Some, None, Option
 use Rattle.keycode.specs.declared.key.KeyCode.TheVariants.{Char}
 use Rattle.keycode.specs.declared.key.KeyEvent.{KeyEvent}
 use Rattle.keymap.specs.Stored.{Entry}
-use Rattle.writer.specs.Held.{held}
 use Rattle.table.specs.declared.rule.Rule.{Rule}
 use Rattle.table.specs.declared.rule.Rule.TheVariants.{Letters, CsiU, OtherKeys, Cursor, RxvtArrows, ApplicationArrows, Functions, Editing, Single}
 use Rattle.table.specs.declared.rule.TableKey.{TableKey}
@@ -11,7 +10,7 @@ use Rattle.table.specs.Table.{entry, entries_of}
 
 -- the bytes of the key, and the press that they mean
 abbrev pub told : TableKey → Entry KeyEvent
-told k = record { key = held k.bytes; value = k.event }
+told k = record { key = k.bytes.items; value = k.event }
 
 -- what is read past the end of a list
 abbrev pub blank : Entry KeyEvent

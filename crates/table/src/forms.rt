@@ -1,14 +1,15 @@
 // Bytes with the press that they mean.
 ghost use Rattle.std.specs.Prelude.{◌≡◌, ◌+◌, ◌≤◌, [], ◌∷◌, ◌++◌, length};
+ghost use Rattle.arrayvec.specs.ArrayVec.{array_vec_len};
 ghost use Rattle.character.specs.Parts.{csi};
 ghost use Rattle.table.specs.Table.{entry, mods_of, parameter, form};
 ghost use Rattle.table.specs.Told.{told};
-ghost use Rattle.writer.specs.Held.{held};
 ghost use Rattle.writer.specs.Numbers.{dec};
 
-use crate::rule::TableKey;
+use crate::rule::{LONGEST, TableKey};
+use arrayvec::ArrayVec;
 use keycode::{KeyCode, KeyEvent, Modifiers};
-use writer::{Buf, decimal};
+use writer::{decimal, written};
 
 // The modifiers of a parameter, or none for 0.
 pub(crate) fn mods_of(n: u8) -> Modifiers
@@ -26,24 +27,21 @@ pub(crate) fn mods_of(n: u8) -> Modifiers
 
 // Bytes that are written out.
 pub(crate) fn keyed(text: &[u8], key: KeyCode, modifiers: Modifiers) -> TableKey
-    requires { length text.now ≤ 64 }
+    requires { length text.now ≤ 11 }
     ensures { told result ≡ entry text.now key modifiers.0 }
 {
-    let mut bytes = Buf::new();
-    bytes.extend(text);
     TableKey {
-        bytes,
+        bytes: written(text),
         event: KeyEvent { key, modifiers },
     }
 }
 
 // A text and one byte behind it.
 pub(crate) fn marked(text: &[u8], byte: u8, key: KeyCode, modifiers: Modifiers) -> TableKey
-    requires { length text.now ≤ 32 }
+    requires { length text.now ≤ 10 }
     ensures { told result ≡ entry (text.now ++ (byte ∷ [])) key modifiers.0 }
 {
-    let mut bytes = Buf::new();
-    bytes.extend(text);
+    let mut bytes = written(text);
     bytes.push(byte);
     TableKey {
         bytes,
@@ -52,11 +50,12 @@ pub(crate) fn marked(text: &[u8], byte: u8, key: KeyCode, modifiers: Modifiers) 
 }
 
 // Writes `;` and the parameter, or nothing for 0.
-fn push_parameter(out: &mut Buf, n: u8)
-    requires room { out.old.len ≤ 32 }
+#[tactic(auto, using(writer::proofs::Digits::dec_two))]
+fn push_parameter(out: &mut ArrayVec<u8, LONGEST>, n: u8)
+    requires room { array_vec_len out.old ≤ 7 }
     requires last { n ≤ 16 }
-    ensures bytes { held out.new ≡ held out.old ++ parameter n }
-    ensures len { out.new.len ≤ out.old.len + 3 }
+    ensures bytes { out.new.items ≡ out.old.items ++ parameter n }
+    ensures len { array_vec_len out.new ≤ array_vec_len out.old + 3 }
 {
     if n > 0 {
         out.push(b';');
@@ -65,10 +64,10 @@ fn push_parameter(out: &mut Buf, n: u8)
 }
 
 // The bytes so far, a parameter or none for 0, and the final byte.
-pub(crate) fn finish(before: Buf, n: u8, last: u8, key: KeyCode) -> TableKey
-    requires room { before.len ≤ 32 }
+fn finish(before: ArrayVec<u8, LONGEST>, n: u8, last: u8, key: KeyCode) -> TableKey
+    requires room { array_vec_len before ≤ 7 }
     requires last { n ≤ 16 }
-    ensures { told result ≡ form (held before) last key n }
+    ensures { told result ≡ form before.items last key n }
 {
     let mut bytes = before;
     push_parameter(&mut bytes, n);
@@ -84,22 +83,20 @@ pub(crate) fn finish(before: Buf, n: u8, last: u8, key: KeyCode) -> TableKey
 
 // A text, a parameter or none for 0, and the final byte.
 pub(crate) fn parametered(text: &[u8], n: u8, last: u8, key: KeyCode) -> TableKey
-    requires room { length text.now ≤ 32 }
+    requires room { length text.now ≤ 7 }
     requires last { n ≤ 16 }
     ensures { told result ≡ form text.now last key n }
 {
-    let mut bytes = Buf::new();
-    bytes.extend(text);
-    finish(bytes, n, last, key)
+    finish(written(text), n, last, key)
 }
 
 // CSI and a number, a parameter or none for 0, and the final byte.
+#[tactic(auto, using(writer::proofs::Digits::dec_byte))]
 pub(crate) fn numbered(number: u8, n: u8, last: u8, key: KeyCode) -> TableKey
     requires { n ≤ 16 }
     ensures { told result ≡ form (csi (dec number)) last key n }
 {
-    let mut bytes = Buf::new();
-    bytes.extend(b"\x1b[");
+    let mut bytes = written(b"\x1b[");
     decimal(&mut bytes, number as u32);
     finish(bytes, n, last, key)
 }

@@ -9,4 +9,4 @@ mod rule;
 
 pub use fill::fill_table;
 pub use place::{RULES, count, entry_at};
-pub use rule::{Rule, TableKey};
+pub use rule::{LONGEST, Rule, TableKey};

@@ -3,7 +3,7 @@ ghost use Rattle.std.specs.Prelude.{◌≡◌, ◌<◌, ◌≤◌, length, IfSom
 ghost use Rattle.table.specs.Table.{cursor_keys, rxvt_keys, application_keys, editing_digits, entries_of, rules, longest_key};
 ghost use Rattle.keycode.specs.declared.key.KeyCode.TheVariants.{Char};
 ghost use Rattle.table.specs.declared.rule.Rule.TheVariants.{Letters};
-ghost use Rattle.writer.specs.Held.{held};
+ghost use Rattle.arrayvec.specs.ArrayVec.{array_vec_len};
 ghost use Rattle.table.specs.Told.{told, told_of, blank, count_of, entry_at};
 
 use crate::rows::{
@@ -185,34 +185,6 @@ pub(crate) fn rule_at(i: usize) -> Rule
     RULES[i]
 }
 
-fn cursor_at(i: usize) -> Lettered
-    requires { i < 10 }
-    ensures { result ≡ slice_index_or cursor_keys i (record { key = Char 0; last = 0; intro = 0 }) }
-{
-    CURSOR[i]
-}
-
-fn rxvt_at(i: usize) -> Marked
-    requires { i < 4 }
-    ensures { result ≡ slice_index_or rxvt_keys i (record { key = Char 0; byte = 0 }) }
-{
-    RXVT[i]
-}
-
-fn application_at(i: usize) -> Marked
-    requires { i < 4 }
-    ensures { result ≡ slice_index_or application_keys i (record { key = Char 0; byte = 0 }) }
-{
-    APPLICATION[i]
-}
-
-fn editing_at(i: usize) -> Marked
-    requires { i < 8 }
-    ensures { result ≡ slice_index_or editing_digits i (record { key = Char 0; byte = 0 }) }
-{
-    EDITING[i]
-}
-
 // The key at a place of a rule: rows of as many keys as a row of the rule has.
 pub(crate) fn key_in(rule: Rule, place: usize) -> TableKey
     requires { place < count_of rule }
@@ -222,11 +194,11 @@ pub(crate) fn key_in(rule: Rule, place: usize) -> TableKey
         Rule::Letters => letter_key((place / 2 + 1) as u8, place % 2),
         Rule::CsiU => csi_u_key((place / 9) as u8, (place % 9) as u8),
         Rule::OtherKeys => other_key((place / 8) as u8, (place % 8) as u8),
-        Rule::Cursor => cursor_key(cursor_at(place / 18), (place % 18) as u8),
-        Rule::RxvtArrows => rxvt_key(rxvt_at(place / 2), place % 2),
-        Rule::ApplicationArrows => application_key(application_at(place / 10), (place % 10) as u8),
+        Rule::Cursor => cursor_key(CURSOR[place / 18], (place % 18) as u8),
+        Rule::RxvtArrows => rxvt_key(RXVT[place / 2], place % 2),
+        Rule::ApplicationArrows => application_key(APPLICATION[place / 10], (place % 10) as u8),
         Rule::Functions => function_key((place / 17 + 1) as u8, (place % 17) as u8),
-        Rule::Editing => editing_key(editing_at(place / 4), place % 4),
+        Rule::Editing => editing_key(EDITING[place / 4], place % 4),
         Rule::Single => single_key(place),
     }
 }
@@ -234,7 +206,7 @@ pub(crate) fn key_in(rule: Rule, place: usize) -> TableKey
 // The key at a place of a rule, from 0, if the rule has so many.
 pub fn entry_at(rule: Rule, place: usize) -> Option<TableKey>
     ensures value { told_of result ≡ entry_at rule place }
-    ensures len { IfSome result (λ k. length (held k.bytes) ≤ longest_key) }
+    ensures len { IfSome result (λ k. array_vec_len k.bytes ≤ longest_key) }
 {
     if place < count(rule) {
         Some(key_in(rule, place))

@@ -7,7 +7,7 @@ use crate::forms::{keyed, marked, mods_of, numbered, parametered};
 use crate::rule::{Lettered, Marked, TableKey};
 use character::ESC;
 use keycode::{KeyCode, KeyEvent, Modifiers};
-use writer::{Buf, decimal};
+use writer::{decimal, written};
 
 const NONE: Modifiers = Modifiers(0);
 
@@ -58,13 +58,13 @@ fn key_of(c: u8) -> KeyCode
 }
 
 // CSI 27 ; n ; c ~, with n one more than the place in the row.
+#[tactic(auto, using(writer::proofs::Digits::dec_digit, writer::proofs::Digits::dec_byte))]
 pub(crate) fn other_key(c: u8, form: u8) -> TableKey
     requires { form < 8 }
     ensures { told result ≡ slice_index_or (other_key_row c) form blank }
 {
     let n = form + 1;
-    let mut bytes = Buf::new();
-    bytes.extend(b"\x1b[27;");
+    let mut bytes = written(b"\x1b[27;");
     decimal(&mut bytes, n as u32);
     bytes.push(b';');
     decimal(&mut bytes, c as u32);
@@ -82,17 +82,7 @@ pub(crate) fn other_key(c: u8, form: u8) -> TableKey
 fn letter_alone(l: Lettered) -> TableKey
     ensures { told result ≡ entry (27 ∷ l.intro ∷ l.last ∷ []) l.key 0 }
 {
-    let mut bytes = Buf::new();
-    bytes.push(ESC);
-    bytes.push(l.intro);
-    bytes.push(l.last);
-    TableKey {
-        bytes,
-        event: KeyEvent {
-            key: l.key,
-            modifiers: NONE,
-        },
-    }
+    keyed(&[ESC, l.intro, l.last], l.key, NONE)
 }
 
 // The letter alone, then CSI 1 and the letter, then with a parameter.
@@ -131,15 +121,6 @@ pub(crate) fn application_key(l: Marked, form: u8) -> TableKey
     }
 }
 
-// The number of Function k, from 1.
-fn number_of(k: u8) -> u8
-    requires some { 1 ≤ k }
-    requires last { k ≤ 20 }
-    ensures { result ≡ slice_index numbers (k - 1) }
-{
-    NUMBERS[k as usize - 1]
-}
-
 // CSI number ~ of Function k, then with a parameter.
 pub(crate) fn function_key(k: u8, n: u8) -> TableKey
     requires some { 1 ≤ k }
@@ -147,7 +128,7 @@ pub(crate) fn function_key(k: u8, n: u8) -> TableKey
     requires form { n < 17 }
     ensures { told result ≡ slice_index_or (function_row k) n blank }
 {
-    numbered(number_of(k), n, b'~', KeyCode::Function(k))
+    numbered(NUMBERS[k as usize - 1], n, b'~', KeyCode::Function(k))
 }
 
 // CSI digit: the key alone, with SHIFT, with CTRL, with both.
@@ -161,17 +142,7 @@ pub(crate) fn editing_key(l: Marked, form: usize) -> TableKey
         2 => (b'^', Modifiers::CTRL),
         _ => (b'@', SHIFT_CTRL),
     };
-    let mut bytes = Buf::new();
-    bytes.extend(b"\x1b[");
-    bytes.push(l.byte);
-    bytes.push(last);
-    TableKey {
-        bytes,
-        event: KeyEvent {
-            key: l.key,
-            modifiers,
-        },
-    }
+    keyed(&[ESC, b'[', l.byte, last], l.key, modifiers)
 }
 
 // The keys that have a sequence of their own.

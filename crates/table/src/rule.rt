@@ -1,9 +1,12 @@
 // The nine rules of the table, and the small tables that they go by.
+use arrayvec::ArrayVec;
 use keycode::{KeyCode, KeyEvent};
-use writer::Buf;
+
+// The bytes of the longest key.
+pub const LONGEST: usize = 11;
 
 // A rule, in the order of filling.
-#[derive(Clone, Copy)]
+#[derive(Clone, Copy, Debug, PartialEq, Eq)]
 pub enum Rule {
     Letters,
     CsiU,
@@ -17,14 +20,14 @@ pub enum Rule {
 }
 
 // A key with a byte of its own.
-#[derive(Clone, Copy)]
+#[derive(Clone, Copy, Debug, PartialEq, Eq)]
 pub struct Marked {
     pub key: KeyCode,
     pub byte: u8,
 }
 
 // A key with a final letter, and the byte behind ESC where it has no parameter: `[` or `O`.
-#[derive(Clone, Copy)]
+#[derive(Clone, Copy, Debug, PartialEq, Eq)]
 pub struct Lettered {
     pub key: KeyCode,
     pub last: u8,
@@ -34,6 +37,6 @@ pub struct Lettered {
 // A key of the table: its bytes, and what they mean.
 #[derive(Drop)]
 pub struct TableKey {
-    pub bytes: Buf,
+    pub bytes: ArrayVec<u8, LONGEST>,
     pub event: KeyEvent,
 }

@@ -99,6 +99,10 @@ dec_short k n h = omega (arith, ap length (dec_in_base n), base_short 10 (lit< t
 pub dec_digit : (n : ℕ) → n < 10 → length (dec n) ≡ 1
 dec_digit n h = ap length (dec_one n h)
 
+-- at most two digits
+pub dec_two : (n : ℕ) → n < 100 → length (dec n) ≤ 2
+dec_two n h = dec_short 1 n (omega (arith, h))
+
 -- a byte has at most three digits
 pub dec_byte : (b : ℕ) → b < 256 → length (dec b) ≤ 3
 dec_byte b h = dec_short 2 b (omega (arith, h))

@@ -6,7 +6,7 @@ use Rattle.table.proofs.fill.fill_key.Goals as goal
 
 pub returns : goal.returns
 returns c =
-    let key = ap (λ (bytes : List ℕ). record { key = bytes; value = c.key_in-key.result.event }) c.as_slice.ensures.bytes ∙ c.key_in-key.ensures in
+    let key = ap (λ (bytes : List ℕ). record { key = bytes; value = c.key_in-key.result.event }) c.as_slice.ensures.value ∙ c.key_in-key.ensures in
     record {
       lender = c.put.ensures.lender;
       valid = c.put.ensures.valid;

@@ -1,23 +1,10 @@
 use Rattle.std.proofs.Common.{ℕ, ◌+◌, [], ◌∷◌, ◌++◌, refl, append_assoc, arith}
 use Rattle.character.specs.Parts.{csi}
-use Rattle.writer.proofs.Digits.{dec_short}
 use Rattle.writer.specs.Numbers.{dec}
 use Rattle.table.specs.Table.{entry, key_of, mods_of}
 use Rattle.table.specs.Told.{blank}
 use Rattle.table.proofs.Each.{in_forms}
 use Rattle.table.proofs.rows.other_key.Goals as goal
-
-pub decimal-requires : goal.decimal-requires
-decimal-requires c = omega (arith, dec_short 1 (c.args.form + 1) (omega arith))
-
-pub push-requires : goal.push-requires
-push-requires c = omega (arith, dec_short 1 (c.args.form + 1) (omega arith))
-
-pub decimal-requires-2 : goal.decimal-requires-2
-decimal-requires-2 c = omega (arith, dec_short 1 (c.args.form + 1) (omega arith), dec_short 2 c.args.c (omega arith))
-
-pub push-requires-2 : goal.push-requires-2
-push-requires-2 c = omega (arith, dec_short 1 (c.args.form + 1) (omega arith), dec_short 2 c.args.c (omega arith))
 
 pub returns : goal.returns
 returns c =
