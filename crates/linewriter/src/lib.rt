@@ -6,6 +6,6 @@ mod number;
 mod output;
 mod write;
 
-pub use line::{key_line, number_of, report_line};
+pub use line::{LONGEST, Line, key_line, number_of, report_line};
 pub use number::Number;
 pub use output::{CAPACITY, LineWriter};

@@ -4,16 +4,23 @@ ghost use Rattle.events.specs.Told.{key as key_told, report as report_told};
 ghost use Rattle.keycode.specs.Modifiers.{unplaced};
 ghost use Rattle.keycode.specs.Names.{name_of};
 ghost use Rattle.lines.specs.Mods.{mods_text};
-ghost use Rattle.writer.specs.Held.{held};
+ghost use Rattle.arrayvec.specs.ArrayVec.{array_vec_len};
 ghost use Rattle.writer.specs.Numbers.{dec};
 ghost use Rattle.linewriter.specs.KeyNumbers.{number_of, Sized};
 ghost use Rattle.linewriter.specs.Lines.{number_text, line_of};
 
 use crate::number::Number;
+use arrayvec::ArrayVec;
 use events::Report;
 use keycode::{KeyCode, KeyEvent, Modifiers, name_of};
 use lines::mods_text;
-use writer::{Buf, decimal, hexadecimal};
+use writer::{decimal, extend, hexadecimal, written};
+
+// The most bytes of the line of a press or a report.
+pub const LONGEST: usize = 40;
+
+// The line of a press or a report.
+pub type Line = ArrayVec<u8, LONGEST>;
 
 // The number that a key holds.
 pub fn number_of(key: KeyCode) -> Number
@@ -28,30 +35,31 @@ pub fn number_of(key: KeyCode) -> Number
 }
 
 // A tab and a key's name, at most 22 bytes.
-fn name_field(out: &mut Buf, key: KeyCode)
-    requires { out.old.len + 22 ≤ 64 }
-    ensures bytes { held out.new ≡ held out.old ++ (9 ∷ name_of key) }
-    ensures len { out.new.len ≤ out.old.len + 22 }
+fn name_field(out: &mut Line, key: KeyCode)
+    requires { array_vec_len out.old + 22 ≤ 40 }
+    ensures bytes { out.new.items ≡ out.old.items ++ (9 ∷ name_of key) }
+    ensures len { array_vec_len out.new ≤ array_vec_len out.old + 22 }
 {
     out.push(b'\t');
-    out.extend(name_of(key).as_bytes());
+    extend(out, name_of(key).as_bytes());
 }
 
 // A tab and the letters of a set of modifiers, at most five bytes.
-fn mods_field(out: &mut Buf, modifiers: Modifiers)
-    requires { out.old.len + 5 ≤ 64 }
-    ensures bytes { held out.new ≡ held out.old ++ (9 ∷ mods_text (unplaced modifiers.0)) }
-    ensures len { out.new.len ≤ out.old.len + 5 }
+fn mods_field(out: &mut Line, modifiers: Modifiers)
+    requires { array_vec_len out.old + 5 ≤ 40 }
+    ensures bytes { out.new.items ≡ out.old.items ++ (9 ∷ mods_text (unplaced modifiers.0)) }
+    ensures len { array_vec_len out.new ≤ array_vec_len out.old + 5 }
 {
     out.push(b'\t');
-    out.extend(mods_text(modifiers).as_bytes());
+    extend(out, mods_text(modifiers).as_bytes());
 }
 
 // A tab and a key's number, at most nine bytes.
-fn number_field(out: &mut Buf, key: KeyCode)
-    requires { out.old.len + 9 ≤ 64 }
-    ensures bytes { held out.new ≡ held out.old ++ (9 ∷ number_text (number_of key)) }
-    ensures len { out.new.len ≤ out.old.len + 9 }
+#[tactic(auto, using(writer::proofs::Digits::dec_byte, writer::proofs::Digits::hex_word))]
+fn number_field(out: &mut Line, key: KeyCode)
+    requires { array_vec_len out.old + 9 ≤ 40 }
+    ensures bytes { out.new.items ≡ out.old.items ++ (9 ∷ number_text (number_of key)) }
+    ensures len { array_vec_len out.new ≤ array_vec_len out.old + 9 }
     ensures room { Sized (number_of key) }
 {
     out.push(b'\t');
@@ -63,13 +71,13 @@ fn number_field(out: &mut Buf, key: KeyCode)
 }
 
 // The line of a press: key, its name, its modifiers and its number.
-pub fn key_line(event: KeyEvent) -> Buf
-    ensures value { held result ≡ line_of (key_told event) }
-    ensures len { result.len ≤ 40 }
+#[tactic(auto, unfolding(crate::specs::Lines::line_of))]
+pub fn key_line(event: KeyEvent) -> Line
+    ensures value { result.items ≡ line_of (key_told event) }
+    ensures len { array_vec_len result ≤ 40 }
     ensures room { Sized (number_of event.key) }
 {
-    let mut out = Buf::new();
-    out.extend(b"key");
+    let mut out = written(b"key");
     name_field(&mut out, event.key);
     mods_field(&mut out, event.modifiers);
     number_field(&mut out, event.key);
@@ -78,21 +86,22 @@ pub fn key_line(event: KeyEvent) -> Buf
 }
 
 // A tab and a number in decimal, at most six bytes.
-fn decimal_field(out: &mut Buf, n: u16)
-    requires { out.old.len + 6 ≤ 64 }
-    ensures bytes { held out.new ≡ held out.old ++ (9 ∷ dec n) }
-    ensures len { out.new.len ≤ out.old.len + 6 }
+#[tactic(auto, using(writer::proofs::Digits::dec_half))]
+fn decimal_field(out: &mut Line, n: u16)
+    requires { array_vec_len out.old + 6 ≤ 40 }
+    ensures bytes { out.new.items ≡ out.old.items ++ (9 ∷ dec n) }
+    ensures len { array_vec_len out.new ≤ array_vec_len out.old + 6 }
 {
     out.push(b'\t');
     decimal(out, n as u32);
 }
 
 // The line of a report: report, its kind and its two numbers.
-pub fn report_line(report: Report) -> Buf
-    ensures { held result ≡ line_of (report_told report) }
+#[tactic(auto, unfolding(crate::specs::Lines::line_of))]
+pub fn report_line(report: Report) -> Line
+    ensures { result.items ≡ line_of (report_told report) }
 {
-    let mut out = Buf::new();
-    out.extend(b"report");
+    let mut out = written(b"report");
     decimal_field(&mut out, report.kind);
     decimal_field(&mut out, report.first);
     decimal_field(&mut out, report.second);

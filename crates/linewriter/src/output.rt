@@ -1,12 +1,10 @@
 // Room for lines.
-ghost use Rattle.std.specs.Prelude.{◌≤◌};
+use arrayvec::ArrayVec;
 
 // The most bytes of all lines.
 pub const CAPACITY: usize = 16384;
 
 #[derive(Drop)]
 pub struct LineWriter {
-    pub(crate) bytes: [u8; 16384],
-    pub(crate) len: usize,
-    ghost ok: { len ≤ 16384 },
+    pub(crate) bytes: ArrayVec<u8, CAPACITY>,
 }

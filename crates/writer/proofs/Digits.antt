@@ -107,12 +107,20 @@ dec_two n h = dec_short 1 n (omega (arith, h))
 pub dec_byte : (b : ℕ) → b < 256 → length (dec b) ≤ 3
 dec_byte b h = dec_short 2 b (omega (arith, h))
 
+-- a number of 16 bits has at most five digits
+pub dec_half : (n : ℕ) → n < 65536 → length (dec n) ≤ 5
+dec_half n h = dec_short 4 n (omega (arith, h))
+
 -- the number of a character has at most seven digits
 pub dec_scalar : (c : ℕ) → c < 1114112 → length (dec c) ≤ 7
 dec_scalar c h = dec_short 6 c (omega (arith, h))
 
 pub hex_short : (k n : ℕ) → n < 16 ^ suc k → length (hex_num n) ≤ suc k
 hex_short k n h = base_short 16 (lit< tt) k n h
+
+-- a number of 32 bits has at most eight hexadecimal digits
+pub hex_word : (n : ℕ) → n < 4294967296 → length (hex_num n) ≤ 8
+hex_word n h = hex_short 7 n (omega (arith, h))
 
 module _ (bytes : List ℕ) (i : ℕ) where
   -- one byte's digits, then those of the rest

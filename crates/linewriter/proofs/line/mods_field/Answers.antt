@@ -1,11 +1,9 @@
-use Rattle.std.proofs.Common.{◌∙◌, append_assoc, arith}
+use Rattle.std.proofs.Common.{◌∙◌, arith}
 use Rattle.linewriter.proofs.Short.{mods_short}
 use Rattle.linewriter.proofs.line.mods_field.Goals as goal
 
 pub extend-requires : goal.extend-requires
 extend-requires c = omega (arith, mods_short c.args.modifiers.0 _ (c.as_bytes.ensures.value ∙ c.mods_text.ensures.value))
 
-pub returns : goal.returns
-returns c =
-    let e = c.as_bytes.ensures.value ∙ c.mods_text.ensures.value in
-    record { bytes = grind (arith, e, append_assoc); len = omega (arith, mods_short c.args.modifiers.0 _ e) }
+pub returns-clause-len : goal.returns-clause-len
+returns-clause-len c = omega (arith, mods_short c.args.modifiers.0 _ (c.as_bytes.ensures.value ∙ c.mods_text.ensures.value))
