@@ -7,41 +7,47 @@ ghost use Rattle.filling.specs.Filling.{HoldsWords};
 ghost use Rattle.keymap.specs.Holding.{Holds, Valid};
 ghost use Rattle.keymap.specs.Stored.{Stored, value_of};
 ghost use Rattle.words.specs.Words.{verb_words, key_words};
-ghost use Rattle.writer.specs.Held.{held};
 
+use arrayvec::ArrayVec;
 use encode::encode_plain;
 use keycode::{KeyCode, KeyEvent};
 use keymap::KeyMap;
 use lines::{Request, read_line};
 use words::Verb;
-use writer::{Buf, decimal, hex};
+use writer::{decimal, hex, written};
+
+// The most bytes of an answer: a word, a tab, sixteen bytes in hexadecimal and the LF.
+pub const LONGEST: usize = 39;
+
+// An answer, LF included.
+pub type Answer = ArrayVec<u8, LONGEST>;
 
 // refused, and the number
-fn refused(number: u8) -> Buf
-    ensures { held result ≡ refused_line number }
+#[tactic(auto, using(writer::proofs::Digits::dec_byte), unfolding(crate::specs::Answers::refused_line))]
+fn refused(number: u8) -> Answer
+    ensures { result.items ≡ refused_line number }
 {
-    let mut out = Buf::new();
-    out.extend(b"refused\t");
+    let mut out = written(b"refused\t");
     decimal(&mut out, number as u32);
     out.push(b'\n');
     out
 }
 
 // bytes, and the bytes in hexadecimal
-fn bytes_line(bytes: &[u8]) -> Buf
+#[tactic(auto, unfolding(crate::specs::Answers::bytes_line))]
+fn bytes_line(bytes: &[u8]) -> Answer
     requires { length bytes.now ≤ 16 }
-    ensures { held result ≡ bytes_line bytes.now }
+    ensures { result.items ≡ bytes_line bytes.now }
 {
-    let mut out = Buf::new();
-    out.extend(b"bytes\t");
+    let mut out = written(b"bytes\t");
     hex(&mut out, bytes);
     out.push(b'\n');
     out
 }
 
 // The answer to a press.
-fn press_answer(event: KeyEvent) -> Buf
-    ensures { held result ≡ to_key event.key event.modifiers.0 }
+fn press_answer(event: KeyEvent) -> Answer
+    ensures { result.items ≡ to_key event.key event.modifiers.0 }
 {
     let mut bytes = [0; 16];
     match encode_plain(event, &mut bytes) {
@@ -51,10 +57,10 @@ fn press_answer(event: KeyEvent) -> Buf
 }
 
 // The answer to a line, by the verbs and the names of keys that the maps hold.
-fn reply(verbs: &KeyMap<Verb>, keys: &KeyMap<KeyCode>, line: &[u8]) -> Buf
+fn reply(verbs: &KeyMap<Verb>, keys: &KeyMap<KeyCode>, line: &[u8]) -> Answer
     requires verbs { Valid verbs.now }
     requires keys { Valid keys.now }
-    ensures { (v : Stored Verb) (k : Stored KeyCode) → Holds verbs.now v → Holds keys.now k → held result ≡ answer_in (value_of v) (value_of k) line.now }
+    ensures { (v : Stored Verb) (k : Stored KeyCode) → Holds verbs.now v → Holds keys.now k → result.items ≡ answer_in (value_of v) (value_of k) line.now }
 {
     match read_line(verbs, keys, line) {
         Ok(Request::Press(event)) => press_answer(event),
@@ -64,11 +70,11 @@ fn reply(verbs: &KeyMap<Verb>, keys: &KeyMap<KeyCode>, line: &[u8]) -> Buf
 
 // The answer to a line without its LF: one line, LF included. Every line has one, and none depends on another. With the maps
 // that `fill_verbs` and `fill_keys` filled, it is that of the script language; with any others, that of the words they hold.
-pub fn answer(verbs: &KeyMap<Verb>, keys: &KeyMap<KeyCode>, line: &[u8]) -> Buf
+pub fn answer(verbs: &KeyMap<Verb>, keys: &KeyMap<KeyCode>, line: &[u8]) -> Answer
     requires verbs { Valid verbs.now }
     requires keys { Valid keys.now }
-    ensures any { (v : Stored Verb) (k : Stored KeyCode) → Holds verbs.now v → Holds keys.now k → held result ≡ answer_in (value_of v) (value_of k) line.now }
-    ensures words { HoldsWords verbs.now verb_words → HoldsWords keys.now key_words → held result ≡ answer_to line.now }
+    ensures any { (v : Stored Verb) (k : Stored KeyCode) → Holds verbs.now v → Holds keys.now k → result.items ≡ answer_in (value_of v) (value_of k) line.now }
+    ensures words { HoldsWords verbs.now verb_words → HoldsWords keys.now key_words → result.items ≡ answer_to line.now }
 {
     reply(verbs, keys, line)
 }

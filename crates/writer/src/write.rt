@@ -18,7 +18,8 @@ pub fn extend<const N: usize>(out: &mut ArrayVec<u8, N>, text: &[u8])
 // A vector that holds a text.
 pub fn written<const N: usize>(text: &[u8]) -> ArrayVec<u8, N>
     requires { length text.now ≤ N }
-    ensures { result.items ≡ text.now }
+    ensures bytes { result.items ≡ text.now }
+    ensures len { array_vec_len result ≡ length text.now }
 {
     let mut out = ArrayVec::new();
     extend(&mut out, text);
