@@ -3,7 +3,6 @@
 
 ghost use Rattle.std.specs.Prelude.{◌≡◌, length};
 ghost use Rattle.filling.specs.Filling.{Fills};
-ghost use Rattle.keymap.specs.Holding.{Valid};
 ghost use Rattle.table.specs.Table.{table};
 ghost use Rattle.basic.specs.Built.{Builds};
 
@@ -14,9 +13,7 @@ use table::fill_table;
 // Puts the built-in table into a map. An empty map with 5,327 nodes takes all of it; with fewer, the insert that lacks
 // nodes is refused, and the keys before it stay.
 pub fn build_basic_key_map(map: &mut KeyMap<KeyEvent>) -> Result<(), MapFault>
-    requires { Valid map.old }
     ensures lender { map.new.nodes.ghost_name ≡ map.old.nodes.ghost_name }
-    ensures valid { Valid map.new }
     ensures supplied { length map.new.nodes.now ≡ length map.old.nodes.now }
     ensures fills { Fills map.old map.new result table }
     ensures built { Builds map.old map.new result }

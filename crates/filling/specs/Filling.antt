@@ -1,5 +1,5 @@
 -- What a filling answers and stores: entries put in their order, up to the first refusal. Assumes nothing.
-use Rattle.std.specs.Prelude.{◌≡◌, ℕ, ◌+◌, ◌≤◌, min, Bool, true, not, ◌&&◌, List, [], ◌∷◌, length, drop, is_some, Some, None, Ok, Err, Option, Result, nat_le}
+use Rattle.std.specs.Prelude.{◌≡◌, ℕ, ◌+◌, ◌≤◌, min, Bool, true, not, ◌&&◌, List, [], ◌∷◌, length, is_some, Some, None, Ok, Err, Option, Result, nat_le}
 use Rattle.keymap.specs.declared.found.MapFault.{MapFault}
 use Rattle.keymap.specs.declared.node.KeyMap.{KeyMap}
 use Rattle.keymap.specs.Holding.{Holds}
@@ -46,19 +46,24 @@ abbrev pub Fills : {V : Type 0} → KeyMap V → KeyMap V → Result (Unit {0}) 
 Fills {V} m after r es =
     (s : Stored V) → Holds m s → (r ≡ (filled (length m.nodes.now) s es).said) × Holds after (filled (length m.nodes.now) s es).stored
 
--- the entries from the i-th on give, from what the map holds now, what all of them give from what it held at the start
-abbrev pub FilledTo : {V : Type 0} → KeyMap V → KeyMap V → List (Entry V) → ℕ → Type 0
-FilledTo {V} start m es i =
-    (s : Stored V)
-    → Holds start s
-    → (cur : Stored V) × (Holds m cur × (filled (length start.nodes.now) cur (drop i es) ≡ filled (length start.nodes.now) s es))
-
 -- the entries that are left give, from what the map holds now, what all of them give from what it held at the start
 abbrev pub FillsLeft : {V : Type 0} → KeyMap V → KeyMap V → List (Entry V) → List (Entry V) → Type 0
 FillsLeft {V} start m left es =
     (s : Stored V)
     → Holds start s
     → (cur : Stored V) × (Holds m cur × (filled (length start.nodes.now) cur left ≡ filled (length start.nodes.now) s es))
+
+-- a filling with the entries, on the same nodes of the caller's
+pub record Puts {V : Type 0} (m after : KeyMap V) (r : Result (Unit {0}) MapFault) (es : List (Entry V)) : Type 0 where
+  pub lender : after.nodes.ghost_name ≡ m.nodes.ghost_name
+  pub supplied : length after.nodes.now ≡ length m.nodes.now
+  pub fills : Fills m after r es
+
+-- such a filling under way, with these entries left
+pub record PutsLeft {V : Type 0} (start m : KeyMap V) (left es : List (Entry V)) : Type 0 where
+  pub lender : m.nodes.ghost_name ≡ start.nodes.ghost_name
+  pub supplied : length m.nodes.now ≡ length start.nodes.now
+  pub fills : FillsLeft start m left es
 
 -- the map gives each word the value that the entries give it, and no other word any
 abbrev pub HoldsWords : {V : Type 0} → KeyMap V → List (Entry V) → Type 0

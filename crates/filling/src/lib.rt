@@ -3,15 +3,12 @@
 
 ghost use Rattle.std.specs.Prelude.{◌≡◌, [], ◌∷◌, length};
 ghost use Rattle.filling.specs.Filling.{Fills};
-ghost use Rattle.keymap.specs.Holding.{Valid};
 
 use keymap::{KeyMap, MapFault};
 
 // One key: the shortest filling.
 pub fn put<V: Copy>(map: &mut KeyMap<V>, key: &[u8], value: V) -> Result<(), MapFault>
-    requires { Valid map.old }
     ensures lender { map.new.nodes.ghost_name ≡ map.old.nodes.ghost_name }
-    ensures valid { Valid map.new }
     ensures supplied { length map.new.nodes.now ≡ length map.old.nodes.now }
     ensures fills { Fills map.old map.new result (record { key = key.entry.now; value = value } ∷ []) }
 {

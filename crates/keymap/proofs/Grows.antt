@@ -1,6 +1,6 @@
 -- One more node for one more byte of a key: from the writes to the tree. Assumes nothing.
-use Rattle.std.proofs.Common.{◌≡◌, ℕ, ◌+◌, ◌<◌, ◌≤◌, cond, eqb, List, [], ◌∷◌, reverse, length, get_or, take, set, sym, refl, ap, ◌∙◌, subst, ⊎_elim, arith}
-use Rattle.std.proofs.lemmas.List.{get_or-set_same, get_or-set_other, length-set}
+use Rattle.std.proofs.Common.{◌≡◌, ℕ, ◌+◌, ◌-◌, ◌<◌, ◌≤◌, cond, eqb, List, [], ◌∷◌, reverse, length, get_or, take, drop, set, sym, refl, ap, ◌∙◌, subst, ⊎_elim, arith}
+use Rattle.std.proofs.lemmas.List.{get_or-take, get_or-drop, get_or-set_same, get_or-set_other, length-set}
 use Rattle.std.proofs.lemmas.Bool.{cases_eq, cases_lt, cond-true, cond-false, eq-eqb, ne_eqb}
 use Rattle.keymap.specs.declared.node.Node.{Node}
 use Rattle.keymap.specs.Growth.{Kept, GrewBy, Grew, child_set, next_set, linked, newborn, with_child, with_next}
@@ -241,3 +241,7 @@ grew_end up xs u s ys n m key at d e p q k =
 -- the last node is one of the caller's
 pub grown_inside : {V : Type 0} {up : ℕ → ℕ} {xs : List (Node V)} {u s : ℕ} {up' : ℕ → ℕ} {ys : List (Node V)} {n : ℕ} {key : List ℕ} {at d : ℕ} → GrewBy up xs u s up' ys n key at d → at < length ys
 grown_inside {up' = up'} {ys} {n} {key} {at} {d} g = omega (arith, at_in up' ys n g.well (reverse (take d key)) at g.deepest.way, g.well.room)
+
+-- a byte of the rest of a key
+pub rest_byte : (key : List ℕ) (start i : ℕ) → start + i < length key → get_or (take (length key - start) (drop start key)) i 0 ≡ get_or key (start + i) 0
+rest_byte key start i h = get_or-take (length key - start) (drop start key) i 0 (omega arith) ∙ get_or-drop start key i 0

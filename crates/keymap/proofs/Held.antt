@@ -4,10 +4,12 @@ use Rattle.std.proofs.lemmas.List.{ext_get_or, get_or-drop, length-drop}
 use Rattle.std.proofs.lemmas.Bool.{both_ways}
 use Rattle.std.specs.Str.{bytes_eq}
 use Rattle.keymap.specs.declared.node.Node.{Node}
-use Rattle.keymap.specs.Holding.{HeldBy, HeldIn}
+use Rattle.std.proofs.Math.Bridge.{le_prop}
+use Rattle.std.proofs.Math.Logic.{∥∥₁_elim, ∥∥₁_map}
+use Rattle.keymap.specs.Held.{HeldBy, HeldIn, ValidIn}
 use Rattle.keymap.specs.Room.{max_nodes, nodes_of, shared_to, need}
 use Rattle.keymap.specs.Stored.{Stored, value_of, some_key, put}
-use Rattle.keymap.specs.Tree.{blank, val, Well, Has, Deepest}
+use Rattle.keymap.specs.Tree.{blank, val, Well, Sound, Has, Deepest}
 use Rattle.keymap.proofs.Counts.{put_nodes}
 use Rattle.keymap.proofs.Entries.{none_is_not_some, same_is_equal, equal_is_same, put_has_value, put_leaves_others}
 use Rattle.keymap.proofs.Finds.{shared_from}
@@ -41,6 +43,13 @@ nothing_held xs = (
     only = λ k v h. absurd (omega (arith, at_in (λ i. 0) xs 0 (no_tree xs) (reverse k) h.0 h.1));
   },
 )
+
+-- nodes that hold something are a tree
+pub sound_of : {V : Type 0} {xs : List (Node V)} {u : ℕ} → ∥ ValidIn xs u ∥₁ → ∥ Sound xs u ∥₁
+sound_of h = ∥∥₁_map h (λ t. (t.1.0, t.1.1.well))
+
+pub within : {V : Type 0} {xs : List (Node V)} {u : ℕ} → ∥ ValidIn xs u ∥₁ → u ≤ min (length xs) max_nodes
+within h = ∥∥₁_elim h le_prop (λ t. omega (arith, t.1.1.well.room, t.1.1.limit))
 
 same_some : {V : Type 0} (o : Option V) (x y : V) → o ≡ Some x → o ≡ Some y → x ≡ y
 same_some o x y p q = cc

@@ -1,4 +1,5 @@
 pub mod Siblings
+pub mod Nodes
 pub mod Ways
 pub mod Values
 pub mod Entries

@@ -3,7 +3,7 @@ use Rattle.std.proofs.Common.{◌≡◌, ℕ, ◌<◌, ◌≤◌, Bool, true, fa
 use Rattle.keymap.specs.declared.found.Found.TheVariants.{None as NoKey, Exact, Ambiguous, NeedData}
 use Rattle.keymap.specs.declared.node.Node.{Node}
 use Rattle.keymap.specs.Finding.{foreign, found}
-use Rattle.keymap.specs.Holding.{HeldBy}
+use Rattle.keymap.specs.Held.{HeldBy}
 use Rattle.keymap.specs.Stored.{Stored}
 use Rattle.keymap.specs.Tree.{kid, Has, Deepest, LastValue}
 use Rattle.keymap.proofs.Finds.{foreign_is, known_is, found_none, found_judged, judged_ambiguous, judged_exact, begun_from, not_begun_from, longest_from, no_longest_from, longer_from, not_longer_from}

@@ -1,18 +1,22 @@
 -- The walk among the children of a node, by ascending label. Assumes nothing.
 use Rattle.std.proofs.Common.{◌≡◌, ℕ, ◌-◌, ◌<◌, ◌≤◌, cond, eqb, List, length, get_or, sym, refl, ◌∙◌, subst, ⊎_elim, arith}
 use Rattle.std.proofs.lemmas.Bool.{cond-true, cond-false, eq-eqb, ne_eqb, cases_eq}
+use Rattle.std.proofs.Math.Bridge.{le_prop}
+use Rattle.std.proofs.Math.Logic.{∥∥₁_elim}
 use Rattle.keymap.specs.declared.node.Node.{Node}
-use Rattle.keymap.specs.Tree.{blank, lab, kid, nxt, Well, Walked, Placed}
+use Rattle.keymap.specs.Tree.{blank, lab, kid, nxt, Well, Sound, Walked, Placed}
+
+-- an order that holds with the parents of a tree holds where there is a tree
+pub of_tree : {V : Type 0} {xs : List (Node V)} {u : ℕ} {a b : ℕ} → ∥ Sound xs u ∥₁ → ((up : ℕ → ℕ) → Well up xs u → a < b) → a < b
+of_tree s f = ∥∥₁_elim s le_prop (λ t. f t.0 t.1)
+
+-- a tree's nodes are on the list
+pub room_of : {V : Type 0} {xs : List (Node V)} {u : ℕ} → ∥ Sound xs u ∥₁ → u ≤ length xs
+room_of s = ∥∥₁_elim s le_prop (λ t. t.1.room)
 
 module _ {V : Type 0} (up : ℕ → ℕ) (xs : List (Node V)) (u : ℕ) (w : Well up xs u) where
-  start : (at b : ℕ) → at < u → Walked up xs u at b 0 (kid xs at)
-  start at b lt = record { here_in = λ h. w.down at lt h; before_none = λ _. refl; before_in = λ h. absurd (omega arith) }
-
-  pub start_read : (at b : ℕ) (n : Node V) → at < u → n ≡ get_or xs at blank → Walked up xs u at b 0 n.child
-  start_read at b n lt e = subst (λ (m : Node V). Walked up xs u at b 0 m.child) (sym e) (start at b lt)
-
-  pub inside : (at b before here : ℕ) → Walked up xs u at b before here → 0 < here → here < length xs
-  inside at b before here k h = omega (arith, (k.here_in h).0, w.room)
+  pub inside : (at b before here : ℕ) → Walked up xs u at b before here → 0 < here → here < u
+  inside at b before here k h = (k.here_in h).0
 
   step : (at b before here : ℕ) → Walked up xs u at b before here → 0 < here → lab xs here < b → Walked up xs u at b here (nxt xs here)
   step at b before here k h lt =

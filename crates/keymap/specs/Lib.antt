@@ -3,4 +3,5 @@ pub mod Finding
 pub mod Room
 pub mod Tree
 pub mod Growth
+pub mod Held
 pub mod Holding

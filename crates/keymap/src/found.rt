@@ -1,7 +1,7 @@
 // The answers of a map: what a lookup finds, and why a call is refused.
 
 // What the stored keys say of an input.
-#[derive(Clone, Copy)]
+#[derive(Clone, Copy, PartialEq, Eq, Debug)]
 pub enum Found<V> {
     // No stored key starts as the input does.
     None,
@@ -13,13 +13,13 @@ pub enum Found<V> {
     NeedData,
 }
 
-// Why a call is refused; a refused call changes nothing.
-#[derive(Clone, Copy)]
+// Why a call is refused; a refused call changes nothing. A refusal is told by its number.
+#[derive(Clone, Copy, PartialEq, Eq, Debug)]
 pub enum MapFault {
     // The key has more bytes than a key may have.
-    KeyTooLong,
+    KeyTooLong = 1,
     // The caller's nodes do not do for the key.
-    TooFewNodes,
+    TooFewNodes = 2,
     // An empty input was looked up where no key is stored.
-    NothingStored,
+    NothingStored = 3,
 }

@@ -1,27 +1,12 @@
-// New nodes for the bytes of a key, and the value at its end.
+// New nodes for the bytes of a key, and the value at its end. These functions take the nodes and not the map:
+// until the value is put, the last node has neither a child nor a value, which a map does not allow.
 ghost use Rattle.std.specs.Prelude.{◌≡◌, ℕ, ◌+◌, ◌-◌, ◌<◌, ◌≤◌, length, slice_index_or, slice_set};
-ghost use Rattle.keymap.specs.Growth.{child_set, next_set, linked, Grew, with_value};
+ghost use Rattle.keymap.specs.Growth.{linked, Grew, with_value};
 ghost use Rattle.keymap.specs.Tree.{blank, Well, Sound, Deepest};
 
 use crate::node::Node;
 use crate::trace::Place;
-use crate::walk::find_place;
-
-// Makes `child` the first child of node `at`.
-fn set_child<V: Copy>(nodes: &mut [Node<V>], at: usize, child: usize)
-    requires { at < length nodes.old }
-    ensures { nodes.new ≡ child_set nodes.old at child }
-{
-    nodes[at].child = child;
-}
-
-// Makes `next` the next sibling of node `at`.
-fn set_next<V: Copy>(nodes: &mut [Node<V>], at: usize, next: usize)
-    requires { at < length nodes.old }
-    ensures { nodes.new ≡ next_set nodes.old at next }
-{
-    nodes[at].next = next;
-}
+use crate::walk::Tree;
 
 // Makes node `used` a child of `at`, labelled `b`, at its place.
 fn add_child<V: Copy>(nodes: &mut [Node<V>], used: usize, at: usize, b: u8, p: Place)
@@ -38,9 +23,9 @@ fn add_child<V: Copy>(nodes: &mut [Node<V>], used: usize, at: usize, b: u8, p: P
         next: here,
     };
     if before == 0 {
-        set_child(nodes, at, used);
+        nodes[at].child = used;
     } else {
-        set_next(nodes, before, used);
+        nodes[before].next = used;
     }
 }
 
@@ -52,21 +37,23 @@ pub(crate) fn grow<V: Copy>(
     from: usize,
     start: usize,
 ) -> usize
-    requires sound { Sound nodes.old used }
+    requires sound { ∥ Sound nodes.old used ∥₁ }
     requires deepest { (up : ℕ → ℕ) → Well up nodes.old used → Deepest up nodes.old used key.now from start }
     requires room { used + (length key.now - start) ≤ length nodes.old }
     ensures { (up : ℕ → ℕ) → Well up nodes.old used → Grew up nodes.old used from nodes.new (used + (length key.now - start)) key.now result (length key.now) }
 {
     let mut at = from;
     let mut count = used;
-    let mut depth = start;
-    while depth < key.len() {
-        let b = key[depth];
-        let p = find_place(nodes, count, at, b);
-        add_child(nodes, count, at, b, p);
+    let rest = &key[start..];
+    for b in rest {
+        let tree = Tree {
+            nodes: &*nodes,
+            used: count,
+        };
+        let p = tree.find_place(at, *b);
+        add_child(nodes, count, at, *b, p);
         at = count;
         count += 1;
-        depth += 1;
     }
     at
 }

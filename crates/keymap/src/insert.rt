@@ -1,13 +1,13 @@
 // Insert over the nodes: room first, then new nodes, then the value.
 ghost use Rattle.std.specs.Prelude.{◌≡◌, ◌+◌, ◌<◌, ◌≤◌, min, length, MatchResult};
-ghost use Rattle.keymap.specs.Holding.{HeldIn, ValidIn, Inserts};
+ghost use Rattle.keymap.specs.Held.{HeldIn, ValidIn, Inserts};
 ghost use Rattle.keymap.specs.Room.{max_key, max_nodes};
 ghost use Rattle.keymap.specs.Stored.{Stored};
 
 use crate::found::MapFault;
 use crate::grow::{grow, put_value};
 use crate::node::Node;
-use crate::walk::follow;
+use crate::walk::Tree;
 
 // The most nodes that a map uses, of those that the caller supplies.
 pub const MAX_NODES: usize = 8192;
@@ -17,11 +17,7 @@ fn room_for(supplied: usize, used: usize, more: usize) -> Result<usize, MapFault
     requires { used ≤ min supplied max_nodes }
     ensures { MatchResult result (λ n. (n ≡ used + more) × (n ≤ min supplied max_nodes)) (λ fault. (fault ≡ MapFault.TooFewNodes) × (min supplied max_nodes < used + more)) }
 {
-    let limit = if supplied < MAX_NODES {
-        supplied
-    } else {
-        MAX_NODES
-    };
+    let limit = supplied.min(MAX_NODES);
     if limit - used < more {
         return Err(MapFault::TooFewNodes);
     }
@@ -47,11 +43,15 @@ fn insert_more<V: Copy>(
     key: &[u8],
     value: V,
 ) -> Result<usize, MapFault>
-    requires valid { ValidIn nodes.old used }
+    requires valid { ∥ ValidIn nodes.old used ∥₁ }
     requires rooted { 0 < used }
     ensures { (s : Stored V) → HeldIn nodes.old used s → Inserts s nodes.old key.now value nodes.new result }
 {
-    let t = follow(nodes, used, key);
+    let tree = Tree {
+        nodes: &*nodes,
+        used,
+    };
+    let t = tree.follow(key);
     let n = room_for(nodes.len(), used, key.len() - t.depth)?;
     let at = grow(nodes, used, key, t.at, t.depth);
     put_value(nodes, at, value);
@@ -65,7 +65,7 @@ pub(crate) fn insert_in<V: Copy>(
     key: &[u8],
     value: V,
 ) -> Result<usize, MapFault>
-    requires valid { ValidIn nodes.old used }
+    requires valid { ∥ ValidIn nodes.old used ∥₁ }
     requires short { length key.now ≤ max_key }
     ensures { (s : Stored V) → HeldIn nodes.old used s → Inserts s nodes.old key.now value nodes.new result }
 {

@@ -1,54 +1,49 @@
 // Lookup over the nodes.
 ghost use Rattle.std.specs.Prelude.{◌≡◌, ◌<◌, ◌≤◌, true, false, ◌⊎◌, length};
 ghost use Rattle.keymap.specs.Finding.{found};
-ghost use Rattle.keymap.specs.Holding.{HeldIn, ValidIn};
+ghost use Rattle.keymap.specs.Held.{HeldIn, ValidIn};
 ghost use Rattle.keymap.specs.Stored.{Stored};
 ghost use Rattle.keymap.specs.Tree.{kid};
 
 use crate::found::Found;
-use crate::node::Node;
 use crate::trace::Trace;
-use crate::walk::{follow, read_node};
+use crate::walk::Tree;
 
-// Whether a stored key goes on behind the last value on the way: the way has another node there,
-// or it ends there with the input and with a child.
-fn goes_on<V: Copy>(nodes: &[Node<V>], key: &[u8], t: Trace<V>) -> bool
-    requires { t.at < length nodes.now }
-    ensures yes { result ≡ true → (t.best.len < t.depth) ⊎ ((length key.now ≤ t.depth) × (0 < kid nodes.now t.at)) }
-    ensures no { result ≡ false → (t.depth ≤ t.best.len) × ((t.depth < length key.now) ⊎ ((length key.now ≤ t.depth) × (kid nodes.now t.at ≡ 0))) }
-{
-    if t.best.len < t.depth {
-        return true;
+impl<'a, V: Copy> Tree<'a, V> {
+    // Whether a stored key goes on behind the last value on the way: the way has another node there,
+    // or it ends there with the input and with a child.
+    fn goes_on(&self, key: &[u8], t: Trace<V>) -> bool
+        requires { t.at < self.now.used }
+        ensures yes { result ≡ true → (t.best.len < t.depth) ⊎ ((length key.now ≤ t.depth) × (0 < kid self.now.nodes.now t.at)) }
+        ensures no { result ≡ false → (t.depth ≤ t.best.len) × ((t.depth < length key.now) ⊎ ((length key.now ≤ t.depth) × (kid self.now.nodes.now t.at ≡ 0))) }
+    {
+        if t.best.len < t.depth {
+            return true;
+        }
+        if t.depth < key.len() {
+            return false;
+        }
+        self.node(t.at).child != 0
     }
-    if t.depth < key.len() {
-        return false;
-    }
-    read_node(nodes, t.at).child != 0
-}
 
-// What the stored keys say of `key`; `maybe_more` says that more input may come.
-pub(crate) fn lookup_in<V: Copy>(
-    nodes: &[Node<V>],
-    used: usize,
-    key: &[u8],
-    maybe_more: bool,
-) -> Found<V>
-    requires valid { ValidIn nodes.now used }
-    requires rooted { 0 < used }
-    ensures { (s : Stored V) → HeldIn nodes.now used s → result ≡ found s key.now maybe_more }
-{
-    let t = follow(nodes, used, key);
-    if t.depth == 0 && key.len() > 0 {
-        return Found::None;
-    }
-    let on = goes_on(nodes, key, t);
-    match t.best.value {
-        None => Found::NeedData,
-        Some(v) => {
-            if maybe_more && on {
-                Found::Ambiguous(t.best.len, v)
-            } else {
-                Found::Exact(t.best.len, v)
+    // What the stored keys say of `key`; `maybe_more` says that more input may come.
+    pub(crate) fn lookup(&self, key: &[u8], maybe_more: bool) -> Found<V>
+        requires { 0 < self.now.used }
+        ensures { (s : Stored V) → HeldIn self.now.nodes.now self.now.used s → result ≡ found s key.now maybe_more }
+    {
+        let t = self.follow(key);
+        if t.depth == 0 && key.len() > 0 {
+            return Found::None;
+        }
+        let on = self.goes_on(key, t);
+        match t.best.value {
+            None => Found::NeedData,
+            Some(v) => {
+                if maybe_more && on {
+                    Found::Ambiguous(t.best.len, v)
+                } else {
+                    Found::Exact(t.best.len, v)
+                }
             }
         }
     }

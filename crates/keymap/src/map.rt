@@ -1,15 +1,15 @@
 // The calls of a map.
 ghost use Rattle.std.specs.Prelude.{◌≡◌, true, [], length, drop, is_err};
 ghost use Rattle.keymap.specs.Finding.{looked, unless};
-ghost use Rattle.keymap.specs.Holding.{Holds, Valid};
+ghost use Rattle.keymap.specs.Holding.{Holds};
 ghost use Rattle.keymap.specs.Room.{number, nodes_of, insert_cause, after};
 ghost use Rattle.keymap.specs.Stored.{Stored};
 ghost use Rattle.keymap.specs.Tree.{blank};
 
 use crate::found::{Found, MapFault};
 use crate::insert::insert_in;
-use crate::lookup::lookup_in;
 use crate::node::{KeyMap, Node};
+use crate::walk::Tree;
 
 // The most bytes of a key.
 pub const MAX_KEY: usize = 64;
@@ -19,11 +19,7 @@ impl MapFault {
     pub fn number(self) -> u8
         ensures { result ≡ number self }
     {
-        match self {
-            MapFault::KeyTooLong => 1,
-            MapFault::TooFewNodes => 2,
-            MapFault::NothingStored => 3,
-        }
+        self as u8
     }
 }
 
@@ -45,7 +41,6 @@ impl<'a, V: Copy> KeyMap<'a, V> {
     // A map with nothing stored; what the nodes hold does not count.
     pub fn new(nodes: &'a mut [Node<V>]) -> KeyMap<'a, V>
         ensures lender { result.nodes.ghost_name ≡ nodes.entry.ghost_name }
-        ensures valid { Valid result }
         ensures holds { Holds result [] }
         ensures same { result.nodes.now ≡ nodes.old }
     {
@@ -54,9 +49,7 @@ impl<'a, V: Copy> KeyMap<'a, V> {
 
     // Stores `value` under `key`; a stored key has its value replaced. A refusal changes nothing.
     pub fn insert(&mut self, key: &[u8], value: V) -> Result<(), MapFault>
-        requires { Valid self.old }
         ensures lender { self.new.nodes.ghost_name ≡ self.old.nodes.ghost_name }
-        ensures valid { Valid self.new }
         ensures supplied { length self.new.nodes.now ≡ length self.old.nodes.now }
         ensures answer { (s : Stored V) → Holds self.old s → result ≡ unless (insert_cause (length self.old.nodes.now) s key.now) tt }
         ensures stored { (s : Stored V) → Holds self.old s → Holds self.new (after (insert_cause (length self.old.nodes.now) s key.now) key.now value s) }
@@ -73,11 +66,14 @@ impl<'a, V: Copy> KeyMap<'a, V> {
 
     // What the stored keys say of `key`; `maybe_more` says that more input may come.
     pub fn lookup(&self, key: &[u8], maybe_more: bool) -> Result<Found<V>, MapFault>
-        requires { Valid self.now }
         ensures { (s : Stored V) → Holds self.now s → result ≡ looked s key.now maybe_more }
     {
         if self.used > 0 {
-            return Ok(lookup_in(self.nodes, self.used, key, maybe_more));
+            let tree = Tree {
+                nodes: &*self.nodes,
+                used: self.used,
+            };
+            return Ok(tree.lookup(key, maybe_more));
         }
         if key.len() == 0 {
             return Err(MapFault::NothingStored);

@@ -1,7 +1,10 @@
 // The nodes of a map, and the map over them.
+ghost use Rattle.keymap.specs.Held.{ValidIn};
 
 // A node: the byte that leads to it, the value of the key that ends at it, its first child and its
 // next sibling. Siblings stand by ascending label. Node 0 is the root, so 0 says that there is none.
+// Nodes are named by number, with 0 for none, since they stand on memory that the caller supplies: two
+// `Option<usize>` would take 16 bytes more in each node.
 #[derive(Clone, Copy)]
 pub struct Node<V> {
     pub(crate) label: u8,
@@ -22,4 +25,5 @@ pub struct Node<V> {
 pub struct KeyMap<'a, V> {
     pub(crate) nodes: &'a mut [Node<V>],
     pub(crate) used: usize,
+    ghost valid: { ∥ ValidIn nodes.now used ∥₁ },
 }

@@ -1,8 +1,8 @@
 // Whether a table of key events is lawful: what a decoder asks of its table.
 #![tactic(auto)]
 
-ghost use Rattle.std.specs.Prelude.{◌≡◌, not, ◌&&◌};
-ghost use Rattle.keymap.specs.Holding.{Holds, Valid};
+ghost use Rattle.std.specs.Prelude.{◌≡◌};
+ghost use Rattle.keymap.specs.Holding.{Holds};
 ghost use Rattle.keymap.specs.Stored.{Stored};
 ghost use Rattle.keycode.specs.declared.key.KeyEvent.{KeyEvent};
 ghost use Rattle.lawful.specs.Lawful.{is_plain_escape, lawful};
@@ -22,34 +22,21 @@ pub fn is_plain_escape(event: KeyEvent) -> bool
 fn is_exact(said: Result<Found<KeyEvent>, MapFault>) -> bool
     ensures { result ≡ some_exact said }
 {
-    match said {
-        Ok(Found::Exact(_, _)) => true,
-        _ => false,
-    }
+    matches!(said, Ok(Found::Exact(_, _)))
 }
 
 // Whether that key is plain Escape.
 fn is_exact_escape(said: Result<Found<KeyEvent>, MapFault>) -> bool
     ensures { result ≡ escape_exact said }
 {
-    match said {
-        Ok(Found::Exact(_, event)) => is_plain_escape(event),
-        _ => false,
-    }
-}
-
-fn neither(a: bool, b: bool) -> bool
-    ensures { result ≡ (not a && not b) }
-{
-    !a && !b
+    matches!(said, Ok(Found::Exact(_, event)) if is_plain_escape(event))
 }
 
 // Whether the table has no empty key and, where ESC alone is plain Escape, a longer key that starts with ESC.
 pub fn is_lawful(map: &KeyMap<KeyEvent>) -> bool
-    requires { Valid map.now }
     ensures { (s : Stored KeyEvent) → Holds map.now s → result ≡ lawful s }
 {
     let empty_key = is_exact(map.lookup(b"", false));
     let lone_escape = is_exact_escape(map.lookup(b"\x1b", true));
-    neither(empty_key, lone_escape)
+    !empty_key & !lone_escape
 }

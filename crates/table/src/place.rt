@@ -1,8 +1,7 @@
 // The table by places: each rule's keys from 0 on.
 ghost use Rattle.std.specs.Prelude.{◌≡◌, ◌<◌, ◌≤◌, length, IfSome, slice_index_or};
-ghost use Rattle.table.specs.Table.{cursor_keys, rxvt_keys, application_keys, editing_digits, entries_of, rules, longest_key};
+ghost use Rattle.table.specs.Table.{cursor_keys, rxvt_keys, application_keys, editing_digits, entries_of, longest_key};
 ghost use Rattle.keycode.specs.declared.key.KeyCode.TheVariants.{Char};
-ghost use Rattle.table.specs.declared.rule.Rule.TheVariants.{Letters};
 ghost use Rattle.arrayvec.specs.ArrayVec.{array_vec_len};
 ghost use Rattle.table.specs.Told.{told, told_of, blank, count_of, entry_at};
 
@@ -175,14 +174,6 @@ pub fn count(rule: Rule) -> usize
     ensures number { result ≡ count_of rule }
 {
     count_of(rule)
-}
-
-// The rule at a place, from 0.
-pub(crate) fn rule_at(i: usize) -> Rule
-    requires { i < 9 }
-    ensures { result ≡ slice_index_or rules i Letters }
-{
-    RULES[i]
 }
 
 // The key at a place of a rule: rows of as many keys as a row of the rule has.

@@ -1,7 +1,6 @@
 // The tables of words, put into maps.
-ghost use Rattle.std.specs.Prelude.{◌≡◌, ◌<◌, [], ◌∷◌, length};
-ghost use Rattle.filling.specs.Filling.{Fills, TakesAll};
-ghost use Rattle.keymap.specs.Holding.{Valid};
+ghost use Rattle.std.specs.Prelude.{◌≡◌, ◌<◌, [], ◌∷◌};
+ghost use Rattle.filling.specs.Filling.{Fills, Puts, TakesAll};
 ghost use Rattle.words.specs.Words.{verb_words, key_word, key_words};
 
 use crate::verb::Verb;
@@ -11,9 +10,7 @@ use keymap::{KeyMap, MapFault};
 
 // Puts the verbs into a map. A refused insert passes up as it came; an empty map with 6 nodes takes them.
 pub fn fill_verbs(map: &mut KeyMap<Verb>) -> Result<(), MapFault>
-    requires { Valid map.old }
     ensures lender { map.new.nodes.ghost_name ≡ map.old.nodes.ghost_name }
-    ensures valid { Valid map.new }
     ensures fills { Fills map.old map.new result verb_words }
     ensures takes { TakesAll map.old map.new result verb_words }
 {
@@ -22,12 +19,8 @@ pub fn fill_verbs(map: &mut KeyMap<Verb>) -> Result<(), MapFault>
 
 // Puts the name at a place into a map.
 fn fill_key(map: &mut KeyMap<KeyCode>, place: usize) -> Result<(), MapFault>
-    requires valid { Valid map.old }
-    requires place { place < 90 }
-    ensures lender { map.new.nodes.ghost_name ≡ map.old.nodes.ghost_name }
-    ensures valid { Valid map.new }
-    ensures supplied { length map.new.nodes.now ≡ length map.old.nodes.now }
-    ensures fills { Fills map.old map.new result (key_word place ∷ []) }
+    requires { place < 90 }
+    ensures { Puts map.old map.new result (key_word place ∷ []) }
 {
     match key_at(place) {
         Some(key) => put(map, name_of(key).as_bytes(), key),
@@ -38,9 +31,7 @@ fn fill_key(map: &mut KeyMap<KeyCode>, place: usize) -> Result<(), MapFault>
 // Puts the names of the keys into a map, in the order of `KeyCode`. A refused insert passes up as it came, and the names
 // before it stay. An empty map with 1,024 nodes takes all of them.
 pub fn fill_keys(map: &mut KeyMap<KeyCode>) -> Result<(), MapFault>
-    requires { Valid map.old }
     ensures lender { map.new.nodes.ghost_name ≡ map.old.nodes.ghost_name }
-    ensures valid { Valid map.new }
     ensures fills { Fills map.old map.new result key_words }
     ensures takes { TakesAll map.old map.new result key_words }
 {

@@ -1,6 +1,6 @@
 // A whole word, looked up.
 ghost use Rattle.std.specs.Prelude.{◌≡◌};
-ghost use Rattle.keymap.specs.Holding.{Holds, Valid};
+ghost use Rattle.keymap.specs.Holding.{Holds};
 ghost use Rattle.keymap.specs.Stored.{Stored, value_of};
 ghost use Rattle.words.specs.Whole.{whole};
 
@@ -11,14 +11,13 @@ fn whole<V: Copy>(said: Result<Found<V>, MapFault>, len: usize) -> Option<V>
     ensures { result ≡ whole said len }
 {
     match said {
-        Ok(Found::Exact(n, value)) => { if n == len { Some(value) } else { None } }
+        Ok(Found::Exact(n, value)) if n == len => Some(value),
         _ => None,
     }
 }
 
 // The value of a word: of the whole text, not of a word that it begins with.
 pub fn word<V: Copy>(map: &KeyMap<V>, text: &[u8]) -> Option<V>
-    requires { Valid map.now }
     ensures { (s : Stored V) → Holds map.now s → result ≡ value_of s text.now }
 {
     whole(map.lookup(text, false), text.len())

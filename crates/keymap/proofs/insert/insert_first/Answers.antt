@@ -1,21 +1,14 @@
-use Rattle.std.proofs.Common.{◌≡◌, ◌+◌, ◌-◌, ◌<◌, length, set, refl, ap, arith, length-set}
+use Rattle.std.proofs.Common.{◌≡◌, ◌+◌, ◌-◌, ◌<◌, length, set, refl, ap, arith}
 use Rattle.std.proofs.lemmas.Result.{err_from_is_err_and}
 use Rattle.keymap.proofs.Grows.{grew_end, grown_inside}
 use Rattle.keymap.proofs.Held.{inserts_ok, first_need}
-use Rattle.keymap.proofs.Inserts.{insert_done, root_well, root_deepest, from_root}
+use Rattle.keymap.proofs.Inserts.{insert_done, root_well, from_root}
 use Rattle.keymap.proofs.insert.insert_first.Goals as goal
 
-pub grow-at-requires : goal.grow-at-requires
-grow-at-requires g c =
-    let xs = c.args.nodes.now in
+pub grow-at-requires-clause-sound : goal.grow-at-requires-clause-sound
+grow-at-requires-clause-sound g c =
     let b = c.in_ok-n.ensures in
-    let l : 0 < length xs = omega (arith, b.0, b.1) in
-    let e = ap (set xs 0) c.empty.ensures in
-    record {
-      sound = ((λ i. 0), root_well xs _ l e);
-      deepest = λ up w. root_deepest xs _ l e up _;
-      room = omega (arith, b.0, b.1, length-set xs 0 c.empty.result);
-    }
+    ∣ ((λ i. 0), root_well c.args.nodes.now _ (omega (arith, b.0, b.1)) (ap (set c.args.nodes.now 0) c.empty.ensures)) ∣₁
 
 pub put_value-requires : goal.put_value-requires
 put_value-requires g c =

@@ -1,20 +1,24 @@
 use Rattle.std.proofs.Common.{length, sym, refl, ◌∙◌, arith}
 use Rattle.std.proofs.lemmas.Result.{err_from_is_err_and}
+use Rattle.std.proofs.Math.Bridge.{le_prop}
+use Rattle.std.proofs.Math.Logic.{∥∥₁_elim}
+use Rattle.keymap.proofs.Siblings.{of_tree, room_of}
 use Rattle.keymap.proofs.Grows.{grew_end, grown_inside}
-use Rattle.keymap.proofs.Held.{inserts_ok, more_need}
+use Rattle.keymap.proofs.Held.{inserts_ok, more_need, sound_of, within}
 use Rattle.keymap.proofs.Inserts.{insert_done}
 use Rattle.keymap.proofs.insert.insert_more.Goals as goal
 
-pub follow-t-requires : goal.follow-t-requires
-follow-t-requires g c = record { sound = (c.requires.valid.1.0, c.requires.valid.1.1.well); rooted = c.requires.rooted }
+pub invariant_of-tree : goal.invariant_of-tree
+invariant_of-tree g c = record { room = room_of (sound_of c.requires.valid); sound = sound_of c.requires.valid }
+
+pub room_for-requires : goal.room_for-requires
+room_for-requires g c = within c.requires.valid
 
 pub overflow_sub-key : goal.overflow_sub-key
-overflow_sub-key g c = (c.follow-t.ensures.deepest c.requires.valid.1.0 c.requires.valid.1.1.well).short
+overflow_sub-key g c = ∥∥₁_elim (sound_of c.requires.valid) le_prop (λ t. (c.follow-t.ensures.deepest t.0 t.1).short)
 
 pub put_value-requires : goal.put_value-requires
-put_value-requires g c =
-    let m = c.grow-at.ensures c.requires.valid.1.0 c.requires.valid.1.1.well in
-    grown_inside m.1
+put_value-requires g c = of_tree (sound_of c.requires.valid) (λ up w. grown_inside (c.grow-at.ensures up w).1)
 
 pub returns : goal.returns
 returns g c s h =

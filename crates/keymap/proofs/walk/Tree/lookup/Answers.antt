@@ -1,12 +1,10 @@
 use Rattle.std.proofs.Common.{arith}
 use Rattle.std.proofs.lemmas.Bool.{both_ways}
 use Rattle.keymap.proofs.Looked.{answers_none, answers_need_data, answers_ambiguous, answers_exact}
+use Rattle.keymap.proofs.Siblings.{of_tree}
 use Rattle.keymap.proofs.Ways.{at_in}
-use Rattle.keymap.proofs.lookup.lookup_in.Goals as goal
-use Rattle.keymap.proofs.lookup.lookup_in.Goals.{else-maybe_more-via-then-maybe_more+else-on, else-maybe_more-via-else-maybe_more}
-
-pub follow-t-requires : goal.follow-t-requires
-follow-t-requires g c = record { sound = (c.requires.valid.1.0, c.requires.valid.1.1.well); rooted = c.requires.rooted }
+use Rattle.keymap.proofs.walk.Tree.lookup.Goals as goal
+use Rattle.keymap.proofs.walk.Tree.lookup.Goals.{else-maybe_more-via-then-maybe_more+else-on, else-maybe_more-via-else-maybe_more}
 
 pub returns-then-key-gt0 : goal.returns-then-key-gt0
 returns-then-key-gt0 g c s h =
@@ -14,8 +12,7 @@ returns-then-key-gt0 g c s h =
 
 pub goes_on-on-requires : goal.goes_on-on-requires
 goes_on-on-requires g c =
-    let w = c.requires.valid.1.1.well in
-    omega (arith, at_in c.requires.valid.1.0 _ _ w _ _ (c.follow-t.ensures.deepest _ w).way, w.room)
+    of_tree c.args.self.now.sound (λ up w. at_in up _ _ w _ _ (c.follow-t.ensures.deepest up w).way)
 
 pub returns-in-None : goal.returns-in-None
 returns-in-None g c s h =
