@@ -152,8 +152,10 @@ const EDITING: [Marked; 8] = [
 ];
 
 // How many keys a rule has: rows by keys in a row.
-fn count_of(rule: Rule) -> usize
-    ensures { result ≡ count_of rule }
+#[tactic(auto, using(crate::proofs::Counts::counted))]
+pub fn count(rule: Rule) -> usize
+    ensures value { result ≡ length (entries_of rule) }
+    ensures number { result ≡ count_of rule }
 {
     match rule {
         Rule::Letters => 52,
@@ -166,14 +168,6 @@ fn count_of(rule: Rule) -> usize
         Rule::Editing => 32,
         Rule::Single => 10,
     }
-}
-
-// How many keys a rule has.
-pub fn count(rule: Rule) -> usize
-    ensures value { result ≡ length (entries_of rule) }
-    ensures number { result ≡ count_of rule }
-{
-    count_of(rule)
 }
 
 // The key at a place of a rule: rows of as many keys as a row of the rule has.
