@@ -9,12 +9,10 @@ const TAB: u8 = b'\t';
 pub(crate) fn cut(text: &[u8]) -> (&[u8], Option<&[u8]>)
     ensures { parted text.now ≡ result.0.now ∷ fields_of result.1 }
 {
-    for (i, b) in text.iter().enumerate() {
-        if *b == TAB {
-            return (&text[..i], Some(&text[i + 1..]));
-        }
+    match text.iter().position(|b| *b == TAB) {
+        Some(i) => (&text[..i], Some(&text[i + 1..])),
+        None => (text, None),
     }
-    (text, None)
 }
 
 // Whether a field is the word.

@@ -60,8 +60,5 @@ pub(crate) fn hex_number(text: &[u8]) -> Option<u32>
 pub(crate) fn dec_number(text: &[u8]) -> Option<u8>
     ensures { result ≡ dec_number text.now }
 {
-    match number(text, 10, 255) {
-        Some(n) => Some(n as u8),
-        None => None,
-    }
+    Some(number(text, 10, 255)? as u8)
 }

@@ -1,6 +1,6 @@
 // One line, read: its form by its first field, then the other fields.
 ghost use Rattle.std.specs.Prelude.{◌≡◌};
-ghost use Rattle.keymap.specs.Holding.{Holds, Valid};
+ghost use Rattle.keymap.specs.Holding.{Holds};
 ghost use Rattle.keymap.specs.Stored.{Stored, value_of};
 ghost use Rattle.lines.specs.Fields.{parted};
 ghost use Rattle.lines.specs.Requests.{number, with_number, press_of, form_of, request_in};
@@ -21,9 +21,7 @@ impl LineFault {
     pub fn number(self) -> u8
         ensures { result ≡ number self }
     {
-        match self {
-            LineFault::OtherForm => 11,
-        }
+        self as u8
     }
 }
 
@@ -31,16 +29,16 @@ impl LineFault {
 fn with_number(key: KeyCode, digits: &[u8]) -> Option<KeyCode>
     ensures { result ≡ with_number key digits.now }
 {
-    match place(key) {
-        0 => Some(KeyCode::Char(hex_number(digits)?)),
-        59 => Some(KeyCode::Function(dec_number(digits)?)),
-        _ => { if reads(digits, "-") { Some(key) } else { None } }
+    match key {
+        KeyCode::Char(_) => Some(KeyCode::Char(hex_number(digits)?)),
+        KeyCode::Function(_) => Some(KeyCode::Function(dec_number(digits)?)),
+        _ if reads(digits, "-") => Some(key),
+        _ => None,
     }
 }
 
 // The press of three fields: the key's name, the modifiers, the number.
 fn press(keys: &KeyMap<KeyCode>, fields: &[u8]) -> Option<KeyEvent>
-    requires { Valid keys.now }
     ensures { (s : Stored KeyCode) → Holds keys.now s → result ≡ press_of (value_of s) (parted fields.now) }
 {
     let (name, rest) = cut(fields);
@@ -57,8 +55,6 @@ fn press(keys: &KeyMap<KeyCode>, fields: &[u8]) -> Option<KeyEvent>
 
 // The request of a line of any length.
 fn form(verbs: &KeyMap<Verb>, keys: &KeyMap<KeyCode>, line: &[u8]) -> Option<Request>
-    requires verbs { Valid verbs.now }
-    requires keys { Valid keys.now }
     ensures { (v : Stored Verb) (k : Stored KeyCode) → Holds verbs.now v → Holds keys.now k → result ≡ form_of (value_of v) (value_of k) (parted line.now) }
 {
     let (verb, rest) = cut(line);
@@ -73,8 +69,6 @@ pub fn read_line(
     keys: &KeyMap<KeyCode>,
     line: &[u8],
 ) -> Result<Request, LineFault>
-    requires verbs { Valid verbs.now }
-    requires keys { Valid keys.now }
     ensures { (v : Stored Verb) (k : Stored KeyCode) → Holds verbs.now v → Holds keys.now k → result ≡ request_in (value_of v) (value_of k) line.now }
 {
     if line.len() > LONGEST {
