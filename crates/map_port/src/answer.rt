@@ -1,25 +1,23 @@
 // The answers in eight bytes each: the kind, the found length, the nodes in use and the value, the lowest bytes first.
-ghost use Rattle.std.specs.Prelude.{◌≡◌, ◌+◌, ◌≤◌, length};
-
 use keymap::{Found, MapFault};
 
 // The bytes of an answer.
 pub const ANSWER: usize = 8;
 
-const INSERTED: u8 = 0;
-
-const NONE: u8 = 1;
-
-const EXACT: u8 = 2;
-
-const AMBIGUOUS: u8 = 3;
-
-const NEED_DATA: u8 = 4;
-
 // A refusal's number is added to this.
 const REFUSED: u8 = 128;
 
-// A kind, with a found length of at most 255 and a value.
+// The kinds of answers, but refusals, by their numbers.
+#[derive(Clone, Copy)]
+enum Kind {
+    Inserted = 0,
+    None = 1,
+    Exact = 2,
+    Ambiguous = 3,
+    NeedData = 4,
+}
+
+// A kind by its number, with a found length of at most 255 and a value.
 #[derive(Clone, Copy)]
 pub struct Answer {
     kind: u8,
@@ -27,56 +25,52 @@ pub struct Answer {
     value: u32,
 }
 
-fn plain(kind: u8) -> Answer {
+fn found(kind: Kind, len: usize, value: u32) -> Answer {
     Answer {
-        kind,
-        len: 0,
-        value: 0,
-    }
-}
-
-fn found(kind: u8, len: usize, value: u32) -> Answer {
-    Answer {
-        kind,
+        kind: kind as u8,
         len: len.min(255) as u8,
         value,
     }
 }
 
-fn refused(fault: MapFault) -> Answer {
-    plain(REFUSED | fault.number())
+fn plain(kind: Kind) -> Answer {
+    found(kind, 0, 0)
+}
+
+impl From<MapFault> for Answer {
+    fn from(fault: MapFault) -> Answer {
+        Answer {
+            kind: REFUSED | fault.number(),
+            len: 0,
+            value: 0,
+        }
+    }
 }
 
 pub(crate) fn of_insert(said: Result<(), MapFault>) -> Answer {
     match said {
-        Ok(_) => plain(INSERTED),
-        Err(fault) => refused(fault),
+        Ok(_) => plain(Kind::Inserted),
+        Err(fault) => fault.into(),
     }
 }
 
 pub(crate) fn of_lookup(said: Result<Found<u32>, MapFault>) -> Answer {
     match said {
-        Ok(Found::None) => plain(NONE),
-        Ok(Found::Exact(len, value)) => found(EXACT, len, value),
-        Ok(Found::Ambiguous(len, value)) => found(AMBIGUOUS, len, value),
-        Ok(Found::NeedData) => plain(NEED_DATA),
-        Err(fault) => refused(fault),
+        Ok(Found::None) => plain(Kind::None),
+        Ok(Found::Exact(len, value)) => found(Kind::Exact, len, value),
+        Ok(Found::Ambiguous(len, value)) => found(Kind::Ambiguous, len, value),
+        Ok(Found::NeedData) => plain(Kind::NeedData),
+        Err(fault) => fault.into(),
     }
 }
 
-// Writes an answer and the number of nodes in use to the bytes of `out` from `at` on.
-pub(crate) fn write_answer(answer: Answer, used: usize, out: &mut [u8], at: usize)
-    requires { at + 8 ≤ length out.old }
-    ensures { length out.new ≡ length out.old }
-{
-    let used = (used.min(65535) as u16).to_le_bytes();
-    let value = answer.value.to_le_bytes();
-    out[at] = answer.kind;
-    out[at + 1] = answer.len;
-    out[at + 2] = used[0];
-    out[at + 3] = used[1];
-    out[at + 4] = value[0];
-    out[at + 5] = value[1];
-    out[at + 6] = value[2];
-    out[at + 7] = value[3];
+impl Answer {
+    // The bytes of the answer, with the number of nodes in use.
+    pub(crate) fn to_bytes(self, used: usize) -> [u8; ANSWER] {
+        let [used0, used1] = (used.min(65535) as u16).to_le_bytes();
+        let [value0, value1, value2, value3] = self.value.to_le_bytes();
+        [
+            self.kind, self.len, used0, used1, value0, value1, value2, value3,
+        ]
+    }
 }

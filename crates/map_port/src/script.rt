@@ -1,6 +1,5 @@
 // The records of a script: an insert is 1, the length of the key, its bytes and the value in four bytes, the lowest
 // first; a lookup is 2, 1 where more input may come or else 0, the length of the input, and its bytes.
-ghost use Rattle.std.specs.Prelude.{◌<◌, ◌≤◌, length, IfSome};
 
 #[derive(Clone, Copy)]
 pub enum Request {
@@ -8,89 +7,51 @@ pub enum Request {
     Lookup(bool),
 }
 
-// What is asked, where its key stands in the script, and where the next record starts.
+// What is asked, with its key, and the rest of the script.
 #[derive(Clone, Copy)]
-pub struct Record {
+pub struct Record<'a> {
     pub request: Request,
-    pub start: usize,
-    pub end: usize,
-    pub next: usize,
+    pub key: &'a [u8],
+    pub rest: &'a [u8],
 }
 
-// Where a key starts and ends.
-#[derive(Clone, Copy)]
-struct Key {
-    start: usize,
-    end: usize,
+// A key behind its length, and the rest.
+fn read_key(script: &[u8]) -> Option<(&[u8], &[u8])> {
+    let (len, rest) = script.split_first()?;
+    rest.split_at_checked(*len as usize)
 }
 
-// The key whose length stands at `at`.
-fn read_key(script: &[u8], at: usize) -> Option<Key>
-    ensures { IfSome result (λ k. (at < k.start) × (k.start ≤ k.end) × (k.end ≤ length script.now)) }
-{
-    if at >= script.len() {
-        return None;
-    }
-    let start = at + 1;
-    let len = script[at] as usize;
-    if script.len() - start < len {
-        return None;
-    }
-    Some(Key {
-        start,
-        end: start + len,
-    })
-}
-
-fn read_insert(script: &[u8], at: usize) -> Option<Record>
-    requires { at < length script.now }
-    ensures { IfSome result (λ q. (q.start ≤ q.end) × (q.end ≤ length script.now) × (at < q.next) × (q.next ≤ length script.now)) }
-{
-    let Key { start, end } = read_key(script, at + 1)?;
-    if script.len() - end < 4 {
-        return None;
-    }
-    let value = u32::from_le_bytes([
-        script[end],
-        script[end + 1],
-        script[end + 2],
-        script[end + 3],
-    ]);
+fn read_insert(script: &[u8]) -> Option<Record<'_>> {
+    let (key, rest) = read_key(script)?;
+    let (value, rest) = rest.split_first_chunk::<4>()?;
     Some(Record {
-        request: Request::Insert(value),
-        start,
-        end,
-        next: end + 4,
+        request: Request::Insert(u32::from_le_bytes(*value)),
+        key,
+        rest,
     })
 }
 
-fn read_lookup(script: &[u8], at: usize) -> Option<Record>
-    requires { at < length script.now }
-    ensures { IfSome result (λ q. (q.start ≤ q.end) × (q.end ≤ length script.now) × (at < q.next) × (q.next ≤ length script.now)) }
-{
-    if script.len() - at < 2 || script[at + 1] > 1 {
-        return None;
-    }
-    let maybe_more = script[at + 1] == 1;
-    let Key { start, end } = read_key(script, at + 2)?;
+fn read_lookup(script: &[u8]) -> Option<Record<'_>> {
+    let (more, rest) = script.split_first()?;
+    let maybe_more = match *more {
+        0 => false,
+        1 => true,
+        _ => return None,
+    };
+    let (key, rest) = read_key(rest)?;
     Some(Record {
         request: Request::Lookup(maybe_more),
-        start,
-        end,
-        next: end,
+        key,
+        rest,
     })
 }
 
-// The record at `at`, if one stands there whole.
-pub(crate) fn read_record(script: &[u8], at: usize) -> Option<Record>
-    ensures { IfSome result (λ q. (q.start ≤ q.end) × (q.end ≤ length script.now) × (at < q.next) × (q.next ≤ length script.now)) }
-{
-    if at >= script.len() {
-        return None;
-    }
-    match script[at] {
-        1 => read_insert(script, at),
-        2 => read_lookup(script, at),
+// The first record, if it is there whole.
+pub(crate) fn read_record(script: &[u8]) -> Option<Record<'_>> {
+    let (kind, rest) = script.split_first()?;
+    match *kind {
+        1 => read_insert(rest),
+        2 => read_lookup(rest),
         _ => None,
     }
 }

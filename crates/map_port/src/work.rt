@@ -1,16 +1,13 @@
 // The work on one map.
 ghost use Rattle.std.specs.Prelude.{◌≡◌};
-ghost use Rattle.keymap.specs.Holding.{Valid};
 
-use crate::answer::{ANSWER, Answer, of_insert, of_lookup, write_answer};
+use crate::answer::{ANSWER, Answer, of_insert, of_lookup};
 use crate::script::{Record, Request, read_record};
 use keymap::{KeyMap, Node};
 
 // Does what is asked with this key.
 fn answer_to(map: &mut KeyMap<u32>, request: Request, key: &[u8]) -> Answer
-    requires { Valid map.old }
-    ensures lender { map.new.nodes.ghost_name ≡ map.old.nodes.ghost_name }
-    ensures valid { Valid map.new }
+    ensures { map.new.nodes.ghost_name ≡ map.old.nodes.ghost_name }
 {
     match request {
         Request::Insert(value) => of_insert(map.insert(key, value)),
@@ -22,23 +19,16 @@ fn answer_to(map: &mut KeyMap<u32>, request: Request, key: &[u8]) -> Answer
 // read; answers how many records were worked.
 pub(crate) fn work_through(nodes: &mut [Node<u32>], script: &[u8], out: &mut [u8]) -> u32 {
     let mut map = KeyMap::new(nodes);
-    let mut at = 0;
-    let mut written = 0;
+    let mut left = script;
     let mut count = 0u32;
-    while out.len() - written >= ANSWER {
-        let Some(record) = read_record(script, at) else {
+    for bytes in out.chunks_exact_mut(ANSWER) {
+        let Some(record) = read_record(left) else {
             break;
         };
-        let Record {
-            request,
-            start,
-            end,
-            next,
-        } = record;
-        let answer = answer_to(&mut map, request, &script[start..end]);
-        write_answer(answer, map.used(), out, written);
-        at = next;
-        written += ANSWER;
+        let Record { request, key, rest } = record;
+        let answer = answer_to(&mut map, request, key);
+        bytes.copy_from_slice(&answer.to_bytes(map.used()));
+        left = rest;
         count = count.saturating_add(1);
     }
     count
