@@ -116,12 +116,7 @@ impl ReadBuffer {
         ensures count { Within (length (held self.now)) result }
         ensures back { first_marker (take searched (held self.now)) ≡ None → result ≡ first_marker (held self.now) }
     {
-        let from = searched
-            .saturating_sub(MARKER_LEN)
-            .min(self.end - self.start);
-        match find_marker(&self.bytes[self.start + from..self.end]) {
-            Some(place) => Some(from + place),
-            None => None,
-        }
+        let from = searched.saturating_sub(MARKER_LEN).min(self.len());
+        Some(from + find_marker(&self.as_slice()[from..])?)
     }
 }
