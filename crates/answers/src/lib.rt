@@ -4,16 +4,15 @@
 ghost use Rattle.std.specs.Prelude.{◌≡◌, ◌≤◌, length};
 ghost use Rattle.answers.specs.Answers.{refused_line, bytes_line, to_key, answer_in, answer_to};
 ghost use Rattle.filling.specs.Filling.{HoldsWords};
-ghost use Rattle.keymap.specs.Holding.{Holds, Valid};
+ghost use Rattle.keymap.specs.Holding.{Holds};
 ghost use Rattle.keymap.specs.Stored.{Stored, value_of};
 ghost use Rattle.words.specs.Words.{verb_words, key_words};
 
 use arrayvec::ArrayVec;
 use encode::encode_plain;
 use keycode::{KeyCode, KeyEvent};
-use keymap::KeyMap;
 use lines::{Request, read_line};
-use words::Verb;
+use words::{Script, Verb};
 use writer::{decimal, hex, written};
 
 // The most bytes of an answer: a word, a tab, sixteen bytes in hexadecimal and the LF.
@@ -56,13 +55,11 @@ fn press_answer(event: KeyEvent) -> Answer
     }
 }
 
-// The answer to a line, by the verbs and the names of keys that the maps hold.
-fn reply(verbs: &KeyMap<Verb>, keys: &KeyMap<KeyCode>, line: &[u8]) -> Answer
-    requires verbs { Valid verbs.now }
-    requires keys { Valid keys.now }
-    ensures { (v : Stored Verb) (k : Stored KeyCode) → Holds verbs.now v → Holds keys.now k → result.items ≡ answer_in (value_of v) (value_of k) line.now }
+// The answer to a line, by the words that the maps hold.
+fn reply(script: &Script, line: &[u8]) -> Answer
+    ensures { (v : Stored Verb) (k : Stored KeyCode) → Holds script.now.verbs.now v → Holds script.now.keys.now k → result.items ≡ answer_in (value_of v) (value_of k) line.now }
 {
-    match read_line(verbs, keys, line) {
+    match read_line(script, line) {
         Ok(Request::Press(event)) => press_answer(event),
         Err(fault) => refused(fault.number()),
     }
@@ -70,11 +67,9 @@ fn reply(verbs: &KeyMap<Verb>, keys: &KeyMap<KeyCode>, line: &[u8]) -> Answer
 
 // The answer to a line without its LF: one line, LF included. Every line has one, and none depends on another. With the maps
 // that `fill_verbs` and `fill_keys` filled, it is that of the script language; with any others, that of the words they hold.
-pub fn answer(verbs: &KeyMap<Verb>, keys: &KeyMap<KeyCode>, line: &[u8]) -> Answer
-    requires verbs { Valid verbs.now }
-    requires keys { Valid keys.now }
-    ensures any { (v : Stored Verb) (k : Stored KeyCode) → Holds verbs.now v → Holds keys.now k → result.items ≡ answer_in (value_of v) (value_of k) line.now }
-    ensures words { HoldsWords verbs.now verb_words → HoldsWords keys.now key_words → result.items ≡ answer_to line.now }
+pub fn answer(script: &Script, line: &[u8]) -> Answer
+    ensures any { (v : Stored Verb) (k : Stored KeyCode) → Holds script.now.verbs.now v → Holds script.now.keys.now k → result.items ≡ answer_in (value_of v) (value_of k) line.now }
+    ensures words { HoldsWords script.now.verbs.now verb_words → HoldsWords script.now.keys.now key_words → result.items ≡ answer_to line.now }
 {
-    reply(verbs, keys, line)
+    reply(script, line)
 }

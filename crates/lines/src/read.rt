@@ -11,7 +11,7 @@ use crate::numbers::{dec_number, hex_number};
 use crate::request::{LineFault, Request};
 use keycode::{KeyCode, KeyEvent, place};
 use keymap::KeyMap;
-use words::{Verb, word};
+use words::{Script, Verb, word};
 
 // The most bytes of a line, without its LF.
 pub const LONGEST: usize = 8210;
@@ -54,25 +54,21 @@ fn press(keys: &KeyMap<KeyCode>, fields: &[u8]) -> Option<KeyEvent>
 }
 
 // The request of a line of any length.
-fn form(verbs: &KeyMap<Verb>, keys: &KeyMap<KeyCode>, line: &[u8]) -> Option<Request>
-    ensures { (v : Stored Verb) (k : Stored KeyCode) → Holds verbs.now v → Holds keys.now k → result ≡ form_of (value_of v) (value_of k) (parted line.now) }
+fn form(script: &Script, line: &[u8]) -> Option<Request>
+    ensures { (v : Stored Verb) (k : Stored KeyCode) → Holds script.now.verbs.now v → Holds script.now.keys.now k → result ≡ form_of (value_of v) (value_of k) (parted line.now) }
 {
     let (verb, rest) = cut(line);
-    match word(verbs, verb)? {
-        Verb::Press => Some(Request::Press(press(keys, rest?)?)),
+    match word(script.verbs, verb)? {
+        Verb::Press => Some(Request::Press(press(script.keys, rest?)?)),
     }
 }
 
 // The request of a line, without its LF, by the verbs and the names of keys that the maps hold.
-pub fn read_line(
-    verbs: &KeyMap<Verb>,
-    keys: &KeyMap<KeyCode>,
-    line: &[u8],
-) -> Result<Request, LineFault>
-    ensures { (v : Stored Verb) (k : Stored KeyCode) → Holds verbs.now v → Holds keys.now k → result ≡ request_in (value_of v) (value_of k) line.now }
+pub fn read_line(script: &Script, line: &[u8]) -> Result<Request, LineFault>
+    ensures { (v : Stored Verb) (k : Stored KeyCode) → Holds script.now.verbs.now v → Holds script.now.keys.now k → result ≡ request_in (value_of v) (value_of k) line.now }
 {
     if line.len() > LONGEST {
         return Err(LineFault::OtherForm);
     }
-    form(verbs, keys, line).ok_or(LineFault::OtherForm)
+    form(script, line).ok_or(LineFault::OtherForm)
 }

@@ -3,8 +3,10 @@
 
 mod fill;
 mod look;
+mod script;
 mod verb;
 
 pub use fill::{fill_keys, fill_verbs};
 pub use look::word;
+pub use script::Script;
 pub use verb::Verb;
