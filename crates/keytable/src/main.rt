@@ -1,8 +1,6 @@
 // Prints the built-in key table in the order of filling, then the entries that later ones replace, and the totals.
 #![tactic(auto)]
 
-ghost use Rattle.keymap.specs.Holding.{Valid};
-
 mod row;
 mod totals;
 
@@ -17,17 +15,16 @@ use totals::Totals;
 // As many nodes as a map can use.
 const NODES: usize = 8192;
 
-fn print_table(rt: &HostRuntime, map: &KeyMap<KeyEvent>) -> io::Result<()>
-    requires { Valid map.now }
-{
-    let mut totals = Totals::new();
-    for i in 0..RULES.len() {
-        totals = print_rule(rt, map, i, totals)?;
+fn print_table(rt: &HostRuntime, map: &KeyMap<KeyEvent>) -> io::Result<()> {
+    let mut totals = Totals::default();
+    for (i, rule) in RULES.iter().enumerate() {
+        totals = print_rule(rt, map, i as u8, *rule, totals)?;
     }
-    for i in 0..RULES.len() {
-        print_replaced(rt, map, i)?;
+    for (i, rule) in RULES.iter().enumerate() {
+        print_replaced(rt, map, i as u8, *rule)?;
     }
-    totals.print(rt, map.used())
+    print!(rt; "{totals}")?;
+    println!(rt; "nodes\t{}", map.used())
 }
 
 fn main(rt: HostRuntime) -> io::Result<()> {

@@ -1,54 +1,59 @@
 // The lines of a rule's entries.
-ghost use Rattle.std.specs.Prelude.{◌≡◌, ◌+◌, ◌<◌, ◌≤◌, ◌∷◌, ◌++◌, length};
-ghost use Rattle.keymap.specs.Holding.{Valid};
-ghost use Rattle.writer.specs.Held.{held};
+ghost use Rattle.std.specs.Prelude.{◌≡◌, ◌+◌, ◌∷◌, ◌++◌};
 ghost use Rattle.writer.specs.Numbers.{dec, hex_of};
 
 use crate::totals::Totals;
+use arrayvec::ArrayVec;
 use keycode::KeyEvent;
 use keymap::KeyMap;
 use linewriter::key_line;
 use std::io;
 use std::io::Write;
-use table::{RULES, TableKey, count, entry_at};
+use table::{Rule, TableKey, count, entry_at};
 use words::word;
-use writer::{Buf, decimal, hex};
+use writer::{decimal, hex};
 
 // The bytes of the word in front of a line of a press.
 const WORD: usize = 3;
 
-// The rule and the place, from 1, and the key in hexadecimal, with tabs between.
-fn place_fields(rule: u8, place: u16, key: &[u8]) -> Buf
-    requires { length key.now ≤ 11 }
-    ensures { held result ≡ dec (rule + 1) ++ (9 ∷ (dec (place + 1) ++ (9 ∷ hex_of key.now))) }
-{
-    let mut out = Buf::new();
-    decimal(&mut out, rule as u32 + 1);
-    out.push(b'\t');
-    decimal(&mut out, place as u32 + 1);
-    out.push(b'\t');
-    hex(&mut out, key);
-    out
+// The most bytes of the rule, the place and the key.
+const FIELDS: usize = 32;
+
+// An entry: its rule and its place there, from 0, and its key.
+#[derive(Drop)]
+struct Entry {
+    rule: u8,
+    place: u16,
+    key: TableKey,
 }
 
-// The place, and the key that the bytes mean as a line has it, without the word in front.
-fn print_key(rt: &HostRuntime, rule: u8, place: u16, key: &TableKey) -> io::Result<()>
-    requires { length (held key.now.bytes) ≤ 11 }
-{
-    let mut out = rt.stdout();
-    out.write_all(place_fields(rule, place, key.bytes.as_slice()).as_slice())?;
-    let line = key_line(key.event);
-    let text = line.as_slice();
-    out.write_all(&text[WORD.min(text.len())..])
-}
+impl Entry {
+    // The rule and the place, from 1, and the key in hexadecimal, with tabs between.
+    #[tactic(auto, using(writer::proofs::Digits::dec_most))]
+    fn fields(&self) -> ArrayVec<u8, FIELDS>
+        ensures { result.items ≡ dec (self.now.rule + 1) ++ (9 ∷ (dec (self.now.place + 1) ++ (9 ∷ hex_of self.now.key.bytes.items))) }
+    {
+        let mut out = ArrayVec::new();
+        decimal(&mut out, self.rule as u32 + 1);
+        out.push(b'\t');
+        decimal(&mut out, self.place as u32 + 1);
+        out.push(b'\t');
+        hex(&mut out, self.key.bytes.as_slice());
+        out
+    }
 
-// Whether the map has another press under the key.
-fn is_replaced(map: &KeyMap<KeyEvent>, key: &TableKey) -> bool
-    requires { Valid map.now }
-{
-    match word(map, key.bytes.as_slice()) {
-        Some(event) => key_line(event).as_slice() != key_line(key.event).as_slice(),
-        None => true,
+    // The place, and the press that the bytes mean as a line has it, without the word in front.
+    fn print(&self, rt: &HostRuntime) -> io::Result<()> {
+        let mut out = rt.stdout();
+        out.write_all(self.fields().as_slice())?;
+        let line = key_line(self.key.event);
+        let text = line.as_slice();
+        out.write_all(&text[WORD.min(text.len())..])
+    }
+
+    // Whether the map has another press under the key.
+    fn is_replaced(&self, map: &KeyMap<KeyEvent>) -> bool {
+        word(map, self.key.bytes.as_slice()) != Some(self.key.event)
     }
 }
 
@@ -56,17 +61,20 @@ fn is_replaced(map: &KeyMap<KeyEvent>, key: &TableKey) -> bool
 pub(crate) fn print_rule(
     rt: &HostRuntime,
     map: &KeyMap<KeyEvent>,
-    rule: usize,
+    number: u8,
+    rule: Rule,
     totals: Totals,
-) -> io::Result<Totals>
-    requires valid { Valid map.now }
-    requires rule { rule < 9 }
-{
+) -> io::Result<Totals> {
     let mut totals = totals;
-    for place in 0..count(RULES[rule]) {
-        if let Some(key) = entry_at(RULES[rule], place) {
-            print_key(rt, rule as u8, place as u16, &key)?;
-            totals = totals.with(key.bytes.as_slice().len(), is_replaced(map, &key));
+    for place in 0..count(rule) {
+        if let Some(key) = entry_at(rule, place) {
+            let entry = Entry {
+                rule: number,
+                place: place as u16,
+                key,
+            };
+            entry.print(rt)?;
+            totals = totals.with(entry.key.bytes.len(), entry.is_replaced(map));
         }
     }
     Ok(totals)
@@ -76,21 +84,20 @@ pub(crate) fn print_rule(
 pub(crate) fn print_replaced(
     rt: &HostRuntime,
     map: &KeyMap<KeyEvent>,
-    rule: usize,
-) -> io::Result<()>
-    requires valid { Valid map.now }
-    requires rule { rule < 9 }
-{
-    for place in 0..count(RULES[rule]) {
-        if let Some(key) = entry_at(RULES[rule], place) {
-            if is_replaced(map, &key) {
+    number: u8,
+    rule: Rule,
+) -> io::Result<()> {
+    for place in 0..count(rule) {
+        if let Some(key) = entry_at(rule, place) {
+            let entry = Entry {
+                rule: number,
+                place: place as u16,
+                key,
+            };
+            if entry.is_replaced(map) {
                 let mut out = rt.stdout();
                 out.write_all(b"replaced\t")?;
-                out.write_all(place_fields(
-                    rule as u8,
-                    place as u16,
-                    key.bytes.as_slice(),
-                ).as_slice())?;
+                out.write_all(entry.fields().as_slice())?;
                 out.write_all(b"\n")?;
             }
         }

@@ -1,7 +1,7 @@
 // What is counted.
-use std::io;
+use std::fmt;
 
-#[derive(Clone, Copy)]
+#[derive(Clone, Copy, Default)]
 pub(crate) struct Totals {
     pub(crate) inserts: usize,
     pub(crate) replaced: usize,
@@ -9,14 +9,6 @@ pub(crate) struct Totals {
 }
 
 impl Totals {
-    pub(crate) fn new() -> Self {
-        Totals {
-            inserts: 0,
-            replaced: 0,
-            longest: 0,
-        }
-    }
-
     // One entry more.
     pub(crate) fn with(self, len: usize, replaced: bool) -> Self {
         Totals {
@@ -25,12 +17,13 @@ impl Totals {
             longest: self.longest.max(len),
         }
     }
+}
 
-    pub(crate) fn print(self, rt: &HostRuntime, nodes: usize) -> io::Result<()> {
+impl fmt::Display for Totals {
+    fn fmt<W: fmt::Write>(&self, f: &mut fmt::Formatter<W>) -> fmt::Result {
         let keys = self.inserts.saturating_sub(self.replaced);
-        println!(rt; "inserts\t{}", self.inserts)?;
-        println!(rt; "keys\t{}", keys)?;
-        println!(rt; "longest\t{}", self.longest)?;
-        println!(rt; "nodes\t{}", nodes)
+        writeln!(f, "inserts\t{}", self.inserts)?;
+        writeln!(f, "keys\t{keys}")?;
+        writeln!(f, "longest\t{}", self.longest)
     }
 }

@@ -107,6 +107,10 @@ dec_two n h = dec_short 1 n (omega (arith, h))
 pub dec_byte : (b : ℕ) → b < 256 → length (dec b) ≤ 3
 dec_byte b h = dec_short 2 b (omega (arith, h))
 
+-- a number up to 65,536 has at most five digits, and at most three up to 256
+pub dec_most : (n : ℕ) → n ≤ 65536 → (length (dec n) ≤ 5) × (n ≤ 256 → length (dec n) ≤ 3)
+dec_most n h = (dec_short 4 n (omega (arith, h)), λ g. dec_short 2 n (omega (arith, g)))
+
 -- a number of 16 bits has at most five digits
 pub dec_half : (n : ℕ) → n < 65536 → length (dec n) ≤ 5
 dec_half n h = dec_short 4 n (omega (arith, h))
