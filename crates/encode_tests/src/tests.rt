@@ -28,37 +28,26 @@ fn encode_in(
 fn sends(room: usize, example: Example) -> bool {
     let Example(key, mods, modes, bytes) = example;
     let mut out = BEFORE;
-    match encode_in(room, key, mods, modes, &mut out) {
-        Ok(count) => count == bytes.len() && holds(&out, bytes),
-        Err(_) => false,
-    }
+    encode_in(room, key, mods, modes, &mut out) == Ok(bytes.len()) && holds(&out, bytes)
 }
 
 // The place of the first example that is not as it says, with room to spare or just enough.
 fn first_wrong(examples: &[Example]) -> Option<usize> {
-    for (i, example) in examples.iter().enumerate() {
-        if !sends(16, *example) || !sends(example.3.len(), *example) {
-            return Some(i);
-        }
-    }
-    None
+    examples.iter().position(|example| !sends(16, *example) || !sends(example.3.len(), *example))
 }
 
 // Whether a press is refused for its cause, and the output left as it was.
 fn refuses(refusal: Refusal) -> bool {
     let Refusal(key, mods, room, cause) = refusal;
     let mut out = BEFORE;
-    match encode_in(room, key, mods, PLAIN, &mut out) {
-        Ok(_) => false,
-        Err(fault) => fault as u8 == cause as u8 && holds(&out, &[]),
-    }
+    encode_in(room, key, mods, PLAIN, &mut out) == Err(cause) && holds(&out, &[])
 }
 
 // Whether the key of a refused press sends nothing as it goes up.
 fn is_silent_up(refusal: Refusal) -> bool {
     let Refusal(key, mods, _, _) = refusal;
     let mut out = [];
-    matches!(encode(key, Modifiers(mods), PLAIN, false, &mut out), Ok(0))
+    encode(key, Modifiers(mods), PLAIN, false, &mut out) == Ok(0)
 }
 
 #[test]

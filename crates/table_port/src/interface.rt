@@ -1,7 +1,7 @@
 // The functions that C calls.
 use crate::tell::tell_built;
 use keymap::Node;
-use table::{RULES, entry_at};
+use table::{RULES, TableKey, entry_at};
 
 // The nodes at hand: a few more than a map may use.
 const NODES: usize = 8200;
@@ -19,21 +19,20 @@ pub extern "C" fn cilvedroz_table(nodes: u32, out: &mut [u8]) -> u32 {
 // or `out` is too short.
 #[unsafe(no_mangle)]
 pub extern "C" fn cilvedroz_table_key(rule: u32, place: u32, out: &mut [u8]) -> u32 {
-    let rule = rule as usize;
-    if rule >= RULES.len() {
+    let Some(rule) = RULES.get(rule as usize) else {
         return 0;
-    }
-    match entry_at(RULES[rule], place as usize) {
-        Some(key) => copy(key.bytes.as_slice(), out),
+    };
+    match entry_at(*rule, place as usize) {
+        Some(key) => copy(&key, out),
         None => 0,
     }
 }
 
-fn copy(key: &[u8], out: &mut [u8]) -> u32 {
-    let len = key.len();
-    if len > 64 || len > out.len() {
+fn copy(key: &TableKey, out: &mut [u8]) -> u32 {
+    let bytes = key.bytes.as_slice();
+    if bytes.len() > out.len() {
         return 0;
     }
-    out[0..len].copy_from_slice(key);
-    len as u32
+    out[..bytes.len()].copy_from_slice(bytes);
+    bytes.len() as u32
 }

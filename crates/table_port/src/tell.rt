@@ -1,7 +1,5 @@
 // What a map holds of the table: eight bytes for each key, in the order of filling. The first is 1 where the key is stored,
 // else 0; then the place of the key that it means, its modifiers in two bytes and its number in four, the lowest first.
-ghost use Rattle.keymap.specs.Holding.{Valid};
-
 use basic::build_basic_key_map;
 use keycode::{KeyCode, KeyEvent, place};
 use keymap::{KeyMap, Node};
@@ -19,44 +17,29 @@ fn number_of(key: KeyCode) -> u32 {
     }
 }
 
-// Writes a record at `at`, if there is room.
-fn write_event(event: KeyEvent, out: &mut [u8], at: usize) {
-    if out.len() < RECORD || at > out.len() - RECORD {
-        return;
-    }
-    let modifiers = event.modifiers.0.to_le_bytes();
-    let number = number_of(event.key).to_le_bytes();
-    out[at] = 1;
-    out[at + 1] = place(event.key).min(255) as u8;
-    out[at + 2] = modifiers[0];
-    out[at + 3] = modifiers[1];
-    out[at + 4] = number[0];
-    out[at + 5] = number[1];
-    out[at + 6] = number[2];
-    out[at + 7] = number[3];
+// The record of a stored key.
+fn record_of(event: KeyEvent) -> [u8; RECORD] {
+    let [m0, m1] = event.modifiers.0.to_le_bytes();
+    let [n0, n1, n2, n3] = number_of(event.key).to_le_bytes();
+    [1, place(event.key).min(255) as u8, m0, m1, n0, n1, n2, n3]
 }
 
-fn tell_key(map: &KeyMap<KeyEvent>, key: TableKey, out: &mut [u8], at: usize)
-    requires { Valid map.now }
-{
+// Writes the record of a key to the front of the output, if there is room; of one that is not stored, the first byte alone.
+fn tell_key(map: &KeyMap<KeyEvent>, key: &TableKey, out: &mut [u8]) {
     match word(map, key.bytes.as_slice()) {
-        Some(event) => write_event(event, out, at),
-        None => {
-            if at < out.len() {
-                out[at] = 0;
-            }
-        }
+        Some(event) if out.len() >= RECORD => out[..RECORD].copy_from_slice(&record_of(event)),
+        None if !out.is_empty() => out[0] = 0,
+        _ => {}
     }
 }
 
 // Tells the keys of a rule from `start` on; answers where the next rule's start.
-fn tell_rule(map: &KeyMap<KeyEvent>, rule: Rule, out: &mut [u8], start: usize) -> usize
-    requires { Valid map.now }
-{
+fn tell_rule(map: &KeyMap<KeyEvent>, rule: Rule, out: &mut [u8], start: usize) -> usize {
     let mut at = start;
     for place in 0..count(rule) {
         if let Some(key) = entry_at(rule, place) {
-            tell_key(map, key, out, at);
+            let from = at.min(out.len());
+            tell_key(map, &key, &mut out[from..]);
         }
         at = at.saturating_add(RECORD);
     }
@@ -71,8 +54,8 @@ pub(crate) fn tell_built(nodes: &mut [Node<KeyEvent>], out: &mut [u8]) -> u32 {
         Err(fault) => fault.number(),
     };
     let mut at = 0;
-    for i in 0..RULES.len() {
-        at = tell_rule(&map, RULES[i], out, at);
+    for rule in RULES {
+        at = tell_rule(&map, rule, out, at);
     }
     refused as u32 * 65536 + map.used().min(65535) as u32
 }
