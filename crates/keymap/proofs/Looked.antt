@@ -5,6 +5,7 @@ use Rattle.keymap.specs.declared.node.Node.{Node}
 use Rattle.keymap.specs.Finding.{foreign, found}
 use Rattle.keymap.specs.Held.{HeldBy}
 use Rattle.keymap.specs.Stored.{Stored}
+use Rattle.keymap.specs.declared.trace.Best.{Best}
 use Rattle.keymap.specs.Tree.{kid, Has, Deepest, LastValue}
 use Rattle.keymap.proofs.Finds.{foreign_is, known_is, found_none, found_judged, judged_ambiguous, judged_exact, begun_from, not_begun_from, longest_from, no_longest_from, longer_from, not_longer_from}
 use Rattle.keymap.proofs.Lookups.{nothing, some_first, no_key_at, longest_at, is_longer, not_longer}
@@ -17,17 +18,17 @@ module _ {V : Type 0} (s : Stored V) (up : ℕ → ℕ) (xs : List (Node V)) (u 
   known : (0 < length r → 0 < d) → foreign s r ≡ false
   known f = known_is s r (λ lo. begun_from s (Has up xs u) h.there h.only (take 1 r) (some_first up xs u h.well h.live r at d dp f lo))
 
-  pub answers_need_data : (0 < length r → 0 < d) → (len : ℕ) (o : Option V) → o ≡ None → LastValue up xs u r d len o → NeedData ≡ found s r more
-  answers_need_data f len o e last =
-      sym (found_judged s r more None (known f) (no_longest_from s (Has up xs u) h.there h.only r (no_key_at up xs u h.well h.live r at d dp len o e last)))
+  pub answers_need_data : (0 < length r → 0 < d) → (o : Option (Best V)) → o ≡ None → LastValue up xs u r d o → NeedData ≡ found s r more
+  answers_need_data f o e last =
+      sym (found_judged s r more None (known f) (no_longest_from s (Has up xs u) h.there h.only r (no_key_at up xs u h.well h.live r at d dp o e last)))
 
-  module _ (f : 0 < length r → 0 < d) (len : ℕ) (o : Option V) (v : V) (e : o ≡ Some v) (last : LastValue up xs u r d len o) where
-    pub answers_ambiguous : more ≡ true → (len < d) ⊎ ((length r ≤ d) × (0 < kid xs at)) → Ambiguous len v ≡ found s r more
+  module _ (f : 0 < length r → 0 < d) (o : Option (Best V)) (b : Best V) (e : o ≡ Some b) (last : LastValue up xs u r d o) where
+    pub answers_ambiguous : more ≡ true → (b.len < d) ⊎ ((length r ≤ d) × (0 < kid xs at)) → Ambiguous b.len b.value ≡ found s r more
     answers_ambiguous m on =
-        sym (found_judged s r more (Some (record { len = len; value = v })) (known f) (longest_from s (Has up xs u) h.there h.only r len v (longest_at up xs u h.well h.live r at d dp len o v e last))
-        ∙ judged_ambiguous s r more (record { len = len; value = v }) m (longer_from s (Has up xs u) h.there h.only r len (is_longer up xs u h.well h.live r at d dp len o v e last on)))
+        sym (found_judged s r more (Some (record { len = b.len; value = b.value })) (known f) (longest_from s (Has up xs u) h.there h.only r b.len b.value (longest_at up xs u h.well h.live r at d dp o b e last))
+        ∙ judged_ambiguous s r more (record { len = b.len; value = b.value }) m (longer_from s (Has up xs u) h.there h.only r b.len (is_longer up xs u h.well h.live r at d dp o b e last on)))
 
-    pub answers_exact : (more ≡ true → (d ≤ len) × ((d < length r) ⊎ ((length r ≤ d) × (kid xs at ≡ 0)))) → Exact len v ≡ found s r more
+    pub answers_exact : (more ≡ true → (d ≤ b.len) × ((d < length r) ⊎ ((length r ≤ d) × (kid xs at ≡ 0)))) → Exact b.len b.value ≡ found s r more
     answers_exact ends =
-        sym (found_judged s r more (Some (record { len = len; value = v })) (known f) (longest_from s (Has up xs u) h.there h.only r len v (longest_at up xs u h.well h.live r at d dp len o v e last))
-        ∙ judged_exact s r more (record { len = len; value = v }) (λ m. not_longer_from s (Has up xs u) h.there h.only r len (not_longer up xs u h.well h.live r at d dp len o v e last (ends m))))
+        sym (found_judged s r more (Some (record { len = b.len; value = b.value })) (known f) (longest_from s (Has up xs u) h.there h.only r b.len b.value (longest_at up xs u h.well h.live r at d dp o b e last))
+        ∙ judged_exact s r more (record { len = b.len; value = b.value }) (λ m. not_longer_from s (Has up xs u) h.there h.only r b.len (not_longer up xs u h.well h.live r at d dp o b e last (ends m))))

@@ -4,6 +4,7 @@ use mathlib.Core.List.{reverse-append}
 use Rattle.std.proofs.lemmas.List.{take-take, take-append-drop, reverse-reverse}
 use Rattle.std.proofs.lemmas.Bool.{cases_eq, cases_lt}
 use Rattle.keymap.specs.declared.node.Node.{Node}
+use Rattle.keymap.specs.declared.trace.Best.{Best}
 use Rattle.keymap.specs.Tree.{lab, val, kid, Well, At, Has, Live, Deepest, LastValue}
 use Rattle.keymap.proofs.Relations.{Shared, Begun, Longest, Longer}
 use Rattle.keymap.proofs.Entries.{none_is_not_some}
@@ -74,12 +75,12 @@ module _ {V : Type 0} (up : ℕ → ℕ) (xs : List (Node V)) (u : ℕ) (w : Wel
       pub some_first : (0 < length r → 0 < d) → 0 < length r → Begun (Has up xs u) (take 1 r)
       some_first f h = let i = shorter r 1 d at (f h) dp.way in begun (take 1 r) i.0 i.1
 
-      pub no_key : (len : ℕ) → LastValue up xs u r d len None → (e : ℕ) (x : V) → e ≤ length r → Has up xs u (take e r) x → ⊥
-      no_key len f e x le m =
+      pub no_key : LastValue up xs u r d None → (e : ℕ) (x : V) → e ≤ length r → Has up xs u (take e r) x → ⊥
+      no_key f e x le m =
           ⊎_elim (λ lt. past e m.0 lt le m.1) (λ ge. none_is_not_some (val xs m.0) x (f e m.0 ge m.1) m.2) (cases_lt d e)
 
-      pub longest : (len : ℕ) (v : V) → LastValue up xs u r d len (Some v) → Longest (Has up xs u) r len v
-      longest len v f =
+      pub longest : (b : Best V) → LastValue up xs u r d (Some b) → Longest (Has up xs u) r b.len b.value
+      longest b f =
           record {
             within = omega (arith, f.0, dp.short);
             stored = f.1;
@@ -125,21 +126,22 @@ module _ {V : Type 0} (up : ℕ → ℕ) (xs : List (Node V)) (u : ℕ) (w : Wel
           let h : Has up xs u (take d r ++ m.0) m.1 = subst (λ (n : ℕ). Has up xs u (take n r ++ m.0) m.1) z m.2 in
           no_child k m.0 h.0 (omega (arith, m.3, z)) h.1
 
-      pub no_key_at : (len : ℕ) (o : Option V) → o ≡ None → LastValue up xs u r d len o → (e : ℕ) (x : V) → e ≤ length r → Has up xs u (take e r) x → ⊥
-      no_key_at len o z f = no_key len (subst (λ (y : Option V). LastValue up xs u r d len y) z f)
+      pub no_key_at : (o : Option (Best V)) → o ≡ None → LastValue up xs u r d o → (e : ℕ) (x : V) → e ≤ length r → Has up xs u (take e r) x → ⊥
+      no_key_at o z f = no_key (subst (λ (y : Option (Best V)). LastValue up xs u r d y) z f)
 
-      pub longest_at : (len : ℕ) (o : Option V) (v : V) → o ≡ Some v → LastValue up xs u r d len o → Longest (Has up xs u) r len v
-      longest_at len o v z f = longest len v (subst (λ (y : Option V). LastValue up xs u r d len y) z f)
+      module _ (o : Option (Best V)) (b : Best V) (z : o ≡ Some b) (f : LastValue up xs u r d o) where
+        some : LastValue up xs u r d (Some b)
+        some = subst (λ (y : Option (Best V)). LastValue up xs u r d y) z f
 
-      len_in : (len : ℕ) (o : Option V) (v : V) → o ≡ Some v → LastValue up xs u r d len o → len ≤ d
-      len_in len o v z f = let k : LastValue up xs u r d len (Some v) = subst (λ (y : Option V). LastValue up xs u r d len y) z f in k.0
+        pub longest_at : Longest (Has up xs u) r b.len b.value
+        longest_at = longest b some
 
-      pub is_longer : (len : ℕ) (o : Option V) (v : V) → o ≡ Some v → LastValue up xs u r d len o → (len < d) ⊎ ((length r ≤ d) × (0 < kid xs at)) → Longer (Has up xs u) r len
-      is_longer len o v z f s =
-          let le : len ≤ d = len_in len o v z f in
-          ⊎_elim (λ lt. longer_below len lt) (λ gt. ⊎_elim (λ k. longer_end len (omega arith) k.0 k.1) (λ k. longer_below len k) (⊎_elim (λ k. inr k) (λ k. inl k) s)) (cases_lt len d)
+        pub is_longer : (b.len < d) ⊎ ((length r ≤ d) × (0 < kid xs at)) → Longer (Has up xs u) r b.len
+        is_longer s =
+            let le : b.len ≤ d = some.0 in
+            ⊎_elim (λ lt. longer_below b.len lt) (λ gt. ⊎_elim (λ k. longer_end b.len (omega arith) k.0 k.1) (λ k. longer_below b.len k) (⊎_elim (λ k. inr k) (λ k. inl k) s)) (cases_lt b.len d)
 
-      pub not_longer : (len : ℕ) (o : Option V) (v : V) → o ≡ Some v → LastValue up xs u r d len o → (d ≤ len) × ((d < length r) ⊎ ((length r ≤ d) × (kid xs at ≡ 0))) → Longer (Has up xs u) r len → ⊥
-      not_longer len o v z f s =
-          let e : len ≡ d = omega (arith, len_in len o v z f, s.0) in
-          ⊎_elim (λ lt. no_longer len e lt) (λ k. no_longer_end len e k.0 k.1) s.1
+        pub not_longer : (d ≤ b.len) × ((d < length r) ⊎ ((length r ≤ d) × (kid xs at ≡ 0))) → Longer (Has up xs u) r b.len → ⊥
+        not_longer s =
+            let e : b.len ≡ d = omega (arith, some.0, s.0) in
+            ⊎_elim (λ lt. no_longer b.len e lt) (λ k. no_longer_end b.len e k.0 k.1) s.1

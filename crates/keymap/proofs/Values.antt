@@ -11,12 +11,12 @@ module _ {V : Type 0} (up : ℕ → ℕ) (xs : List (Node V)) (u : ℕ) (w : Wel
   unique [] i j a c = a.0 ∙ sym c.0
   unique (b ∷ k) i j a c = w.apart i j a.0 a.1 c.0 c.1 (unique k (up i) (up j) a.3 c.3) (a.2 ∙ sym c.2)
 
-  keep : (key : List ℕ) (d c len : ℕ) (o : Option V) → At up xs u (reverse (take (d + 1) key)) c → val xs c ≡ None → LastValue up xs u key d len o → LastValue up xs u key (d + 1) len o
-  keep key d c len None a e f =
+  keep : (key : List ℕ) (d c : ℕ) (o : Option (Best V)) → At up xs u (reverse (take (d + 1) key)) c → val xs c ≡ None → LastValue up xs u key d o → LastValue up xs u key (d + 1) o
+  keep key d c None a e f =
       λ x j le b. ⊎_elim (λ lt. f x j (omega arith) b)
       (λ ge. let z : x ≡ d + 1 = omega arith in ap (λ (i : ℕ). val xs i) (unique (reverse (take (d + 1) key)) j c (subst (λ (y : ℕ). At up xs u (reverse (take y key)) j) z b) a) ∙ e)
       (cases_lt x (d + 1))
-  keep key d c len (Some v) a e f = (
+  keep key d c (Some o) a e f = (
     omega (arith, f.0),
     f.1,
     λ x j lo le b. ⊎_elim (λ lt. f.2 x j lo (omega arith) b)
@@ -24,10 +24,10 @@ module _ {V : Type 0} (up : ℕ → ℕ) (xs : List (Node V)) (u : ℕ) (w : Wel
         (cases_lt x (d + 1)),
   )
 
-  more : (key : List ℕ) (d c : ℕ) (old : Best V) (o : Option V) → At up xs u (reverse (take (d + 1) key)) c → val xs c ≡ o → LastValue up xs u key d old.len old.value → LastValue up xs u key (d + 1) (picked old o (d + 1)).len (picked old o (d + 1)).value
-  more key d c old None a e f = keep key d c old.len old.value a e f
+  more : (key : List ℕ) (d c : ℕ) (old : Option (Best V)) (o : Option V) → At up xs u (reverse (take (d + 1) key)) c → val xs c ≡ o → LastValue up xs u key d old → LastValue up xs u key (d + 1) (picked old o (d + 1))
+  more key d c old None a e f = keep key d c old a e f
   more key d c old (Some v) a e f = (omega arith, (c, a, e), λ x j lo le b. absurd (omega arith))
 
-  pub best_more : (key : List ℕ) (d c : ℕ) (old r : Best V) (n : Node V) → At up xs u (reverse (take (d + 1) key)) c → n ≡ get_or xs c blank → LastValue up xs u key d old.len old.value → r ≡ picked old n.value (d + 1) → LastValue up xs u key (d + 1) r.len r.value
+  pub best_more : (key : List ℕ) (d c : ℕ) (old r : Option (Best V)) (n : Node V) → At up xs u (reverse (take (d + 1) key)) c → n ≡ get_or xs c blank → LastValue up xs u key d old → r ≡ picked old n.value (d + 1) → LastValue up xs u key (d + 1) r
   best_more key d c old r n a e f p =
-      subst (λ (y : Best V). LastValue up xs u key (d + 1) y.len y.value) (sym p) (more key d c old n.value a (ap (λ (m : Node V). m.value) (sym e)) f)
+      subst (λ (y : Option (Best V)). LastValue up xs u key (d + 1) y) (sym p) (more key d c old n.value a (ap (λ (m : Node V). m.value) (sym e)) f)

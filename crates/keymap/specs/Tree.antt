@@ -69,15 +69,15 @@ pub record Deepest {V : Type 0} (up : ℕ → ℕ) (xs : List (Node V)) (u : ℕ
   pub ends : depth < length key → (j : ℕ) → 0 < j → j < u → up j ≡ at → lab xs j ≢ slice_index key depth
 
 -- the last value on the way of the first depth bytes of key, and the number of bytes to it
-abbrev pub LastValue : {V : Type 0} → (ℕ → ℕ) → List (Node V) → ℕ → List ℕ → ℕ → ℕ → Option V → Type 0
-LastValue up xs u key depth len None = (e : ℕ) (j : ℕ) → e ≤ depth → At up xs u (reverse (take e key)) j → val xs j ≡ None
-LastValue up xs u key depth len (Some v) =
-    (len ≤ depth) × Has up xs u (take len key) v × ((e : ℕ) (j : ℕ) → len < e → e ≤ depth → At up xs u (reverse (take e key)) j → val xs j ≡ None)
+abbrev pub LastValue : {V : Type 0} → (ℕ → ℕ) → List (Node V) → ℕ → List ℕ → ℕ → Option (Best V) → Type 0
+LastValue up xs u key depth None = (e : ℕ) (j : ℕ) → e ≤ depth → At up xs u (reverse (take e key)) j → val xs j ≡ None
+LastValue up xs u key depth (Some b) =
+    (b.len ≤ depth) × Has up xs u (take b.len key) b.value × ((e : ℕ) (j : ℕ) → b.len < e → e ≤ depth → At up xs u (reverse (take e key)) j → val xs j ≡ None)
 
 -- a value that is met later goes before
-abbrev pub picked : {V : Type 0} → Best V → Option V → ℕ → Best V
+abbrev pub picked : {V : Type 0} → Option (Best V) → Option V → ℕ → Option (Best V)
 picked old None depth = old
-picked old (Some v) depth = record { value = Some v; len = depth }
+picked old (Some v) depth = Some (record { value = v; len = depth })
 
 -- every node that has no child holds a value
 abbrev pub Live : {V : Type 0} → List (Node V) → ℕ → Type 0

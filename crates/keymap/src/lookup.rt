@@ -10,14 +10,14 @@ use crate::trace::Trace;
 use crate::walk::Tree;
 
 impl<'a, V: Copy> Tree<'a, V> {
-    // Whether a stored key goes on behind the last value on the way: the way has another node there,
+    // Whether a stored key goes on behind the first `len` bytes of the way: the way has another node there,
     // or it ends there with the input and with a child.
-    fn goes_on(&self, key: &[u8], t: Trace<V>) -> bool
+    fn goes_on(&self, key: &[u8], t: Trace<V>, len: usize) -> bool
         requires { t.at < self.now.used }
-        ensures yes { result ≡ true → (t.best.len < t.depth) ⊎ ((length key.now ≤ t.depth) × (0 < kid self.now.nodes.now t.at)) }
-        ensures no { result ≡ false → (t.depth ≤ t.best.len) × ((t.depth < length key.now) ⊎ ((length key.now ≤ t.depth) × (kid self.now.nodes.now t.at ≡ 0))) }
+        ensures yes { result ≡ true → (len < t.depth) ⊎ ((length key.now ≤ t.depth) × (0 < kid self.now.nodes.now t.at)) }
+        ensures no { result ≡ false → (t.depth ≤ len) × ((t.depth < length key.now) ⊎ ((length key.now ≤ t.depth) × (kid self.now.nodes.now t.at ≡ 0))) }
     {
-        if t.best.len < t.depth {
+        if len < t.depth {
             return true;
         }
         if t.depth < key.len() {
@@ -35,14 +35,14 @@ impl<'a, V: Copy> Tree<'a, V> {
         if t.depth == 0 && key.len() > 0 {
             return Found::None;
         }
-        let on = self.goes_on(key, t);
-        match t.best.value {
+        let last = t.best;
+        match last {
             None => Found::NeedData,
-            Some(v) => {
-                if maybe_more && on {
-                    Found::Ambiguous(t.best.len, v)
+            Some(best) => {
+                if maybe_more && self.goes_on(key, t, best.len) {
+                    Found::Ambiguous(best.len, best.value)
                 } else {
-                    Found::Exact(t.best.len, v)
+                    Found::Exact(best.len, best.value)
                 }
             }
         }

@@ -7,10 +7,10 @@ pub struct Place {
     pub(crate) here: usize,
 }
 
-// The last value met on the way, and how many bytes lead to it.
+// A value met on the way, and how many bytes lead to it.
 #[derive(Clone, Copy)]
 pub struct Best<V> {
-    pub(crate) value: Option<V>,
+    pub(crate) value: V,
     pub(crate) len: usize,
 }
 
@@ -19,5 +19,5 @@ pub struct Best<V> {
 pub struct Trace<V> {
     pub(crate) at: usize,
     pub(crate) depth: usize,
-    pub(crate) best: Best<V>,
+    pub(crate) best: Option<Best<V>>,
 }

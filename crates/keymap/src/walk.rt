@@ -15,14 +15,11 @@ pub struct Tree<'a, V> {
 }
 
 // The later of two values on a way: `value`, if there is one, `depth` bytes down.
-fn newer<V: Copy>(old: Best<V>, value: Option<V>, depth: usize) -> Best<V>
+fn newer<V: Copy>(old: Option<Best<V>>, value: Option<V>, depth: usize) -> Option<Best<V>>
     ensures { result ≡ picked old value depth }
 {
     match value {
-        Some(v) => Best {
-            value: Some(v),
-            len: depth,
-        },
+        Some(value) => Some(Best { value, len: depth }),
         None => old,
     }
 }
@@ -71,14 +68,11 @@ impl<'a, V: Copy> Tree<'a, V> {
     pub(crate) fn follow(&self, key: &[u8]) -> Trace<V>
         requires { 0 < self.now.used }
         ensures deepest { (up : ℕ → ℕ) → Well up self.now.nodes.now self.now.used → Deepest up self.now.nodes.now self.now.used key.now result.at result.depth }
-        ensures best { (up : ℕ → ℕ) → Well up self.now.nodes.now self.now.used → LastValue up self.now.nodes.now self.now.used key.now result.depth result.best.len result.best.value }
+        ensures best { (up : ℕ → ℕ) → Well up self.now.nodes.now self.now.used → LastValue up self.now.nodes.now self.now.used key.now result.depth result.best }
     {
         let mut at = 0;
         let mut depth = 0;
-        let mut best = Best {
-            value: self.node(0).value,
-            len: 0,
-        };
+        let mut best = newer(None, self.node(0).value, 0);
         for b in key {
             let Some(child) = self.find_child(at, *b) else {
                 break;

@@ -1,16 +1,15 @@
 // Small maps, with what they store, refuse and find.
-use crate::answers::{ambiguous, exact, needs_data, none, refused, stored};
-use keymap::{KeyMap, MAX_KEY, Node};
+use keymap::{Found, KeyMap, MAX_KEY, MapFault, Node};
 
 // The empty key takes the root alone, and no input of one byte starts with it.
 #[test]
 fn empty_key(rt: HostRuntime) {
     let mut nodes = [Node::empty(); 1];
     let mut map = KeyMap::new(&mut nodes);
-    assert!(rt; stored(map.insert(b"", 7)));
+    assert_eq!(rt; map.insert(b"", 7u8), Ok(()));
     assert_eq!(rt; map.used(), 1);
-    assert!(rt; exact(map.lookup(b"", true), 0, 7));
-    assert!(rt; none(map.lookup(b"x", true)));
+    assert_eq!(rt; map.lookup(b"", true), Ok(Found::Exact(0, 7)));
+    assert_eq!(rt; map.lookup(b"x", true), Ok(Found::None));
 }
 
 // A refused first insert leaves no root behind: three nodes do for two bytes afterwards.
@@ -18,11 +17,11 @@ fn empty_key(rt: HostRuntime) {
 fn refused_first_insert(rt: HostRuntime) {
     let mut nodes = [Node::empty(); 3];
     let mut map = KeyMap::new(&mut nodes);
-    assert!(rt; refused(map.insert(b"abc", 1), 2));
+    assert_eq!(rt; map.insert(b"abc", 1u8), Err(MapFault::TooFewNodes));
     assert_eq!(rt; map.used(), 0);
-    assert!(rt; stored(map.insert(b"ab", 2)));
+    assert_eq!(rt; map.insert(b"ab", 2), Ok(()));
     assert_eq!(rt; map.used(), 3);
-    assert!(rt; exact(map.lookup(b"ab", true), 2, 2));
+    assert_eq!(rt; map.lookup(b"ab", true), Ok(Found::Exact(2, 2)));
 }
 
 // A stored key has its value replaced, on no new node.
@@ -30,10 +29,10 @@ fn refused_first_insert(rt: HostRuntime) {
 fn replaced_value(rt: HostRuntime) {
     let mut nodes = [Node::empty(); 2];
     let mut map = KeyMap::new(&mut nodes);
-    assert!(rt; stored(map.insert(b"a", 1)));
-    assert!(rt; stored(map.insert(b"a", 2)));
+    assert_eq!(rt; map.insert(b"a", 1u8), Ok(()));
+    assert_eq!(rt; map.insert(b"a", 2), Ok(()));
     assert_eq!(rt; map.used(), 2);
-    assert!(rt; exact(map.lookup(b"ab", false), 1, 2));
+    assert_eq!(rt; map.lookup(b"ab", false), Ok(Found::Exact(1, 2)));
 }
 
 // A key has at most 64 bytes; a longer one is refused for its length before the nodes are counted.
@@ -42,10 +41,10 @@ fn longest_key(rt: HostRuntime) {
     let key = [b'k'; 65];
     let mut nodes = [Node::empty(); 65];
     let mut map = KeyMap::new(&mut nodes);
-    assert!(rt; refused(map.insert(&key, 1), 1));
-    assert!(rt; stored(map.insert(&key[0..MAX_KEY], 2)));
+    assert_eq!(rt; map.insert(&key, 1u8), Err(MapFault::KeyTooLong));
+    assert_eq!(rt; map.insert(&key[0..MAX_KEY], 2), Ok(()));
     assert_eq!(rt; map.used(), 65);
-    assert!(rt; exact(map.lookup(&key, true), 64, 2));
+    assert_eq!(rt; map.lookup(&key, true), Ok(Found::Exact(64, 2)));
 }
 
 // An input that no stored key starts as is None, one that a stored key starts as wants more.
@@ -53,11 +52,11 @@ fn longest_key(rt: HostRuntime) {
 fn none_before_need_data(rt: HostRuntime) {
     let mut nodes = [Node::empty(); 4];
     let mut map = KeyMap::new(&mut nodes);
-    assert!(rt; refused(map.insert(b"\x1b[AB", 1), 2));
-    assert!(rt; stored(map.insert(b"\x1b[A", 1)));
-    assert!(rt; none(map.lookup(b"x", true)));
-    assert!(rt; needs_data(map.lookup(b"\x1b[", true)));
-    assert!(rt; needs_data(map.lookup(b"\x1b[x", false)));
+    assert_eq!(rt; map.insert(b"\x1b[AB", 1u8), Err(MapFault::TooFewNodes));
+    assert_eq!(rt; map.insert(b"\x1b[A", 1), Ok(()));
+    assert_eq!(rt; map.lookup(b"x", true), Ok(Found::None));
+    assert_eq!(rt; map.lookup(b"\x1b[", true), Ok(Found::NeedData));
+    assert_eq!(rt; map.lookup(b"\x1b[x", false), Ok(Found::NeedData));
 }
 
 // Ambiguous looks one byte behind the longest key that the input begins with, and no further.
@@ -65,10 +64,18 @@ fn none_before_need_data(rt: HostRuntime) {
 fn one_byte_behind(rt: HostRuntime) {
     let mut nodes = [Node::empty(); 4];
     let mut map = KeyMap::new(&mut nodes);
-    assert!(rt; stored(map.insert(b"abc", 1)));
-    assert!(rt; stored(map.insert(b"a", 2)));
-    assert!(rt; ambiguous(map.lookup(b"a", true), 1, 2));
-    assert!(rt; ambiguous(map.lookup(b"abx", true), 1, 2));
-    assert!(rt; exact(map.lookup(b"ax", true), 1, 2));
-    assert!(rt; exact(map.lookup(b"abx", false), 1, 2));
+    assert_eq!(rt; map.insert(b"abc", 1u8), Ok(()));
+    assert_eq!(rt; map.insert(b"a", 2), Ok(()));
+    assert_eq!(rt; map.lookup(b"a", true), Ok(Found::Ambiguous(1, 2)));
+    assert_eq!(rt; map.lookup(b"abx", true), Ok(Found::Ambiguous(1, 2)));
+    assert_eq!(rt; map.lookup(b"ax", true), Ok(Found::Exact(1, 2)));
+    assert_eq!(rt; map.lookup(b"abx", false), Ok(Found::Exact(1, 2)));
+}
+
+// The numbers by which refusals are told.
+#[test]
+fn numbers_of_refusals(rt: HostRuntime) {
+    assert_eq!(rt; MapFault::KeyTooLong.number(), 1);
+    assert_eq!(rt; MapFault::TooFewNodes.number(), 2);
+    assert_eq!(rt; MapFault::NothingStored.number(), 3);
 }

@@ -1,12 +1,12 @@
-// Runs test vectors: reads steps on a map from standard input, a line each, and prints what the map answers.
+// Runs test vectors: reads steps on maps from standard input, a line each, and prints what the map answers. A line `new`
+// asks for an empty map.
 // The crate's stdin and stdout were made by `compare/run ORIGINAL_DIR keymap-sample CASES ANSWERS`: the answers are those
 // of the original crate, not of this one.
 #![tactic(auto)]
 
 mod step;
 
-ghost use Rattle.std.specs.Prelude.{◌≡◌, ◌<◌, length, IfOk};
-ghost use Rattle.keymap.specs.Holding.{Valid};
+ghost use Rattle.std.specs.Prelude.{◌≡◌};
 
 use keymap::{Found, KeyMap, MapFault, Node};
 use std::io;
@@ -15,9 +15,6 @@ use step::{Step, read_step};
 
 // The nodes of a map.
 const NODES: usize = 8192;
-
-// The most bytes of a key or an input.
-const LONGEST: usize = 256;
 
 fn print_refused(rt: &HostRuntime, fault: MapFault) -> io::Result<()> {
     let number = fault.number();
@@ -41,48 +38,38 @@ fn print_found(rt: &HostRuntime, said: Result<Found<u32>, MapFault>) -> io::Resu
     }
 }
 
-// Takes one step, and prints the answer; answers whether the next line starts on an empty map.
-fn take_step(rt: &HostRuntime, map: &mut KeyMap<u32>, line: &str) -> io::Result<bool>
-    requires { Valid map.old }
-    ensures lender { map.new.nodes.ghost_name ≡ map.old.nodes.ghost_name }
-    ensures valid { Valid map.new }
+// Takes the step of a line, and prints the answer.
+fn take_step(rt: &HostRuntime, map: &mut KeyMap<u32>, line: &str) -> io::Result<()>
+    ensures { map.new.nodes.ghost_name ≡ map.old.nodes.ghost_name }
 {
-    let mut bytes = [0u8; LONGEST];
-    match read_step(line, &mut bytes) {
-        Some(Step::New) => {
-            println!(rt; "ok")?;
-            return Ok(true);
-        }
-        Some(Step::Insert(len, value)) => print_inserted(rt, map.insert(&bytes[0..len], value))?,
-        Some(Step::Lookup(len, more)) => print_found(rt, map.lookup(&bytes[0..len], more))?,
-        None => println!(rt; "unreadable")?,
+    match read_step(line) {
+        Some(Step::Insert(key, value)) => print_inserted(rt, map.insert(key.as_slice(), value)),
+        Some(Step::Lookup(input, more)) => print_found(rt, map.lookup(input.as_slice(), more)),
+        None => println!(rt; "unreadable"),
     }
-    Ok(false)
 }
 
-// Goes through the lines from `start` on with an empty map, up to a line that asks for another; answers where to go on.
-fn run_map(rt: &HostRuntime, lines: &[String], start: usize) -> io::Result<usize>
-    requires { start < length lines.now }
-    ensures { IfOk result (λ n. start < n) }
-{
+// Takes the steps of some lines on an empty map.
+fn run_map(rt: &HostRuntime, lines: &[String]) -> io::Result<()> {
     let mut nodes = [Node::empty(); NODES];
     let mut map = KeyMap::new(&mut nodes);
-    for i in start..lines.len() {
-        if take_step(rt, &mut map, lines[i].as_str())? {
-            return Ok(i + 1);
-        }
+    for line in lines {
+        take_step(rt, &mut map, line.as_str())?;
     }
-    Ok(lines.len())
+    Ok(())
 }
 
+// The lines between those that say `new` go to a map of their own.
 fn main(rt: HostRuntime) -> io::Result<()> {
     let mut lines = Vec::new(rt.alloc());
     for line in BufReader::new(rt.alloc(), rt.stdin())?.lines(rt.alloc()) {
         lines.push(line?)?;
     }
-    let mut at = 0;
-    while at < lines.len() {
-        at = run_map(&rt, lines.as_slice(), at)?;
+    for (i, steps) in lines.split(|line| line.as_str() == "new").enumerate() {
+        if i > 0 {
+            println!(rt; "ok")?;
+        }
+        run_map(&rt, steps)?;
     }
     Ok(())
 }

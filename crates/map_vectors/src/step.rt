@@ -1,16 +1,18 @@
-// A step on a map from a line of fields with tabs between: `new`, or `insert` with the key in hexadecimal and the value,
-// or `lookup` with 1 where more input may come or else 0, and the input in hexadecimal.
-ghost use Rattle.std.specs.Prelude.{◌<◌, ◌≤◌, length, IfSome};
-ghost use Rattle.map_vectors.specs.Steps.{Fits};
+// A step on a map from a line of fields with tabs between: `insert` with the key in hexadecimal and the value, or
+// `lookup` with 1 where more input may come or else 0, and the input in hexadecimal.
+ghost use Rattle.std.specs.Prelude.{◌<◌, IfSome};
 
-#[derive(Clone, Copy)]
+use arrayvec::ArrayVec;
+
+// A key or an input.
+pub type Bytes = ArrayVec<u8, 256>;
+
+#[derive(Drop)]
 pub enum Step {
-    // An empty map.
-    New,
-    // The length of a key, and its value.
-    Insert(usize, u32),
-    // The length of an input, and whether more may come.
-    Lookup(usize, bool),
+    // A key, and its value.
+    Insert(Bytes, u32),
+    // An input, and whether more may come.
+    Lookup(Bytes, bool),
 }
 
 fn digit(b: u8) -> Option<u8>
@@ -23,18 +25,16 @@ fn digit(b: u8) -> Option<u8>
     }
 }
 
-// Writes the bytes of the text to the front of `bytes`; answers how many there are.
-fn read_hex(text: &[u8], bytes: &mut [u8]) -> Option<usize>
-    ensures { IfSome result (λ n. n ≤ length bytes.new) }
-{
-    if text.len() % 2 != 0 || text.len() / 2 > bytes.len() {
+// The bytes of a text in hexadecimal.
+fn read_hex(text: &[u8]) -> Option<Bytes> {
+    if text.len() % 2 != 0 {
         return None;
     }
-    let count = text.len() / 2;
-    for i in 0..count {
-        bytes[i] = digit(text[2 * i])? * 16 + digit(text[2 * i + 1])?;
+    let mut bytes = Bytes::new();
+    for pair in text.chunks_exact(2) {
+        bytes.try_push(digit(pair[0])? * 16 + digit(pair[1])?).ok()?;
     }
-    Some(count)
+    Some(bytes)
 }
 
 fn read_flag(text: &str) -> Option<bool> {
@@ -45,20 +45,17 @@ fn read_flag(text: &str) -> Option<bool> {
     }
 }
 
-// The step of a line, whose key goes to the front of `bytes`.
-pub(crate) fn read_step(line: &str, bytes: &mut [u8]) -> Option<Step>
-    ensures { IfSome result (λ s. Fits s (length bytes.new)) }
-{
+// The step of a line.
+pub(crate) fn read_step(line: &str) -> Option<Step> {
     let mut fields = line.split('\t');
     let step = match fields.next()? {
-        "new" => Step::New,
         "insert" => {
-            let len = read_hex(fields.next()?.as_bytes(), bytes)?;
-            Step::Insert(len, fields.next()?.parse::<u32>().ok()?)
+            let key = read_hex(fields.next()?.as_bytes())?;
+            Step::Insert(key, fields.next()?.parse::<u32>().ok()?)
         }
         "lookup" => {
             let maybe_more = read_flag(fields.next()?)?;
-            Step::Lookup(read_hex(fields.next()?.as_bytes(), bytes)?, maybe_more)
+            Step::Lookup(read_hex(fields.next()?.as_bytes())?, maybe_more)
         }
         _ => return None,
     };

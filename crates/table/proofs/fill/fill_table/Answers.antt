@@ -7,13 +7,13 @@ use Rattle.table.proofs.Counts.{nine_rules}
 use Rattle.table.proofs.Each.{each_more, each_all}
 use Rattle.table.proofs.fill.fill_table.Goals as goal
 
-pub returns-in_err-fill_rule : goal.returns-in_err-fill_rule
+pub returns-in_err-fill_rule-clause-fills : goal.returns-in_err-fill_rule-clause-fills
 unfolding rules
-returns-in_err-fill_rule c =
+returns-in_err-fill_rule-clause-fills c =
     let i = c.loop-rule.rule-index in
     let p = err_from_is_err_and c.from_residual.result c.from_residual.ensures.1 in
-    let b = puts_stops c.loop-rule.invariant (entries_of (get_or rules i Letters)) (each (drop (i + 1) rules) entries_of) (each_more entries_of rules i Letters (omega (arith, nine_rules))) c.in_err-fill_rule.ensures in
-    rw (p.1, p.2) (record { lender = b.lender; supplied = b.supplied; fills = b.fills })
+    rw (p.1, p.2)
+    (puts_stops c.loop-rule.invariant (entries_of (get_or rules i Letters)) (each (drop (i + 1) rules) entries_of) (each_more entries_of rules i Letters (omega (arith, nine_rules))) c.in_err-fill_rule.ensures).fills
 
 pub loop-rule-preserved : goal.loop-rule-preserved
 unfolding rules

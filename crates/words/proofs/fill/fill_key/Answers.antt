@@ -1,4 +1,4 @@
-use Rattle.std.proofs.Common.{◌≡◌, ℕ, [], ◌∷◌, get_or, ◌∙◌, subst, arith}
+use Rattle.std.proofs.Common.{◌≡◌, [], ◌∷◌, get_or, ◌∙◌, subst, arith}
 use Rattle.std.proofs.lemmas.Bool.Decides.{nat_tests}
 use Rattle.keycode.specs.Names.{keys}
 use Rattle.keycode.specs.declared.key.KeyCode.{KeyCode}
@@ -15,8 +15,3 @@ returns-in-Some c =
     let word = word_at c.args.place c.requires c.in-Some.key c.as_bytes.result.now key (c.as_bytes.ensures.value ∙ c.name_of.ensures) in
     subst (λ (e : Entry KeyCode). Puts c.args.map.now c.put.new.map c.put.result (e ∷ [])) word
     (record { lender = c.put.ensures.lender; supplied = c.put.ensures.supplied; fills = c.put.ensures.fills })
-
-pub returns-in-None : goal.returns-in-None
-returns-in-None c =
-    let k = c.in-None.ensures in
-    absurd (let z : ◌≡◌ {A = ℕ} 0 1 = grind (arith, nat_tests, k) in omega arith)

@@ -22,7 +22,7 @@ loop-b-preserved g c =
     record {
       count = omega arith;
       way = way;
-      best = λ up w. best_more up _ _ w _ _ _ _ _ _ (way up w) c.node-in-loop-b.ensures (c.loop-b.invariant.best up w) c.newer-best.ensures;
+      best = λ up w. best_more up _ _ w _ _ _ _ _ _ (way up w) c.node-in-loop-b.ensures (c.loop-b.invariant.best up w) c.newer-best-in-loop-b.ensures;
     }
 
 pub returns-clause-deepest : goal.returns-clause-deepest

@@ -7,5 +7,5 @@ invariant-loop-b g l =
     record {
       count : l.depth ≡ l.b-index;
       way : (up : ℕ → ℕ) → Well up l.self.nodes.now l.self.used → At up l.self.nodes.now l.self.used (reverse (take l.depth l.key)) l.at;
-      best : (up : ℕ → ℕ) → Well up l.self.nodes.now l.self.used → LastValue up l.self.nodes.now l.self.used l.key l.depth l.best.len l.best.value;
+      best : (up : ℕ → ℕ) → Well up l.self.nodes.now l.self.used → LastValue up l.self.nodes.now l.self.used l.key l.depth l.best;
     }
