@@ -1,5 +1,5 @@
 // Events stored.
-ghost use Rattle.std.specs.Prelude.{◌≡◌, ◌+◌, ◌≤◌, [], ◌++◌, length, take};
+ghost use Rattle.std.specs.Prelude.{◌≡◌, []};
 ghost use Rattle.events.specs.Told.{text_of};
 ghost use Rattle.events.specs.Events.{told};
 ghost use Rattle.events.specs.Records.{record_at};
@@ -9,20 +9,15 @@ use crate::event::InputEvent;
 use crate::queue::Queue;
 use crate::sink::Sink;
 use crate::stored::Record;
-use crate::texts::Texts;
-
-// What stands in a record that holds no event.
-const NONE: Record = Record::Paste(0, 0);
+use arrayvec::ArrayVec;
 
 impl<const R: usize, const T: usize> Queue<R, T> {
     pub fn new() -> Self
         ensures { held_by result ≡ empty R T }
     {
         Queue {
-            records: [NONE; R],
-            count: 0,
-            texts: Texts { bytes: [0; T] },
-            used: 0,
+            records: ArrayVec::new(),
+            texts: ArrayVec::new(),
         }
     }
 
@@ -30,8 +25,8 @@ impl<const R: usize, const T: usize> Queue<R, T> {
     pub fn clear(&mut self)
         ensures { held_by self.new ≡ empty R T }
     {
-        self.count = 0;
-        self.used = 0;
+        self.records.clear();
+        self.texts.clear();
     }
 }
 
@@ -56,18 +51,6 @@ fn record_of(event: InputEvent<'_>, start: usize) -> Record
     }
 }
 
-impl<const T: usize> Texts<T> {
-    // Writes a text at a place.
-    fn put(&mut self, start: usize, text: &[u8])
-        requires { start + length text.now ≤ T }
-        ensures { take (start + length text.now) self.new.bytes ≡ take start self.old.bytes ++ text.now }
-    {
-        for (i, b) in text.iter().enumerate() {
-            self.bytes[start + i] = *b;
-        }
-    }
-}
-
 impl<const R: usize, const T: usize> Sink for Queue<R, T> {
     ghost Held = { Holding };
 
@@ -77,14 +60,13 @@ impl<const R: usize, const T: usize> Sink for Queue<R, T> {
 
     fn take(&mut self, event: InputEvent<'_>) -> bool {
         let text = text_of(event);
-        if self.count == R || text.len() > T - self.used {
+        if self.records.is_full() || text.len() > self.texts.remaining_capacity() {
             return false;
         }
-        let start = self.used;
-        self.texts.put(start, text);
-        self.used = start + text.len();
-        self.records[self.count] = record_of(event, start);
-        self.count += 1;
+        let start = self.texts.len();
+        // The text fits, as was tested.
+        let _ = self.texts.try_extend_from_slice(text);
+        self.records.push(record_of(event, start));
         true
     }
 }

@@ -1,7 +1,7 @@
 // Queues, lines and focus.
 use crate::WithoutReports;
-use crate::answers::{found, is_char, is_paste, is_report, more, none, press, report};
-use events::{Focus, InputEvent, NoReports, Queue, Recogniser, Sink, paste_event};
+use crate::answers::{found, press, report};
+use events::{Focus, InputEvent, NoReports, Queue, Recogniser, Seen, Sink};
 use keycode::{KeyCode, KeyEvent, Modifiers};
 use linewriter::LineWriter;
 use press_lines::press_line;
@@ -13,7 +13,7 @@ fn full_by_records(rt: HostRuntime) {
     assert!(rt; queue.take(press(KeyCode::Char(0x61), 0)));
     assert!(rt; queue.take(report(1, 1, 0)));
     assert!(rt; !queue.take(press(KeyCode::Char(0x62), 0)));
-    assert!(rt; !queue.take(paste_event(b"")));
+    assert!(rt; !queue.take(InputEvent::Paste(b"")));
     assert_eq!(rt; queue.len(), 2);
 }
 
@@ -21,11 +21,11 @@ fn full_by_records(rt: HostRuntime) {
 #[test]
 fn full_by_text(rt: HostRuntime) {
     let mut queue: Queue<5, 4> = Queue::new();
-    assert!(rt; queue.take(paste_event(b"abc")));
-    assert!(rt; !queue.take(paste_event(b"de")));
-    assert!(rt; queue.take(paste_event(b"d")));
-    assert!(rt; !queue.take(paste_event(b"e")));
-    assert!(rt; queue.take(paste_event(b"")));
+    assert!(rt; queue.take(InputEvent::Paste(b"abc")));
+    assert!(rt; !queue.take(InputEvent::Paste(b"de")));
+    assert!(rt; queue.take(InputEvent::Paste(b"d")));
+    assert!(rt; !queue.take(InputEvent::Paste(b"e")));
+    assert!(rt; queue.take(InputEvent::Paste(b"")));
     assert!(rt; queue.take(press(KeyCode::Enter, 0)));
     assert_eq!(rt; queue.len(), 4);
 }
@@ -34,20 +34,20 @@ fn full_by_text(rt: HostRuntime) {
 #[test]
 fn read_back(rt: HostRuntime) {
     let mut queue: Queue<4, 5> = Queue::new();
-    assert!(rt; queue.take(paste_event(b"ab")));
+    assert!(rt; queue.take(InputEvent::Paste(b"ab")));
     assert!(rt; queue.take(press(KeyCode::Char(0x63), 0)));
-    assert!(rt; queue.take(paste_event(b"def")));
+    assert!(rt; queue.take(InputEvent::Paste(b"def")));
     assert!(rt; queue.take(report(7, 65535, 2)));
-    assert!(rt; is_paste(queue.get(0), b"ab"));
-    assert!(rt; is_char(queue.get(1), 0x63));
-    assert!(rt; is_paste(queue.get(2), b"def"));
-    assert!(rt; is_report(queue.get(3), 7, 65535, 2));
-    assert!(rt; queue.get(4).is_none());
+    assert_eq!(rt; queue.get(0), Some(InputEvent::Paste(b"ab")));
+    assert_eq!(rt; queue.get(1), Some(press(KeyCode::Char(0x63), 0)));
+    assert_eq!(rt; queue.get(2), Some(InputEvent::Paste(b"def")));
+    assert_eq!(rt; queue.get(3), Some(report(7, 65535, 2)));
+    assert_eq!(rt; queue.get(4), None);
     queue.clear();
     assert_eq!(rt; queue.len(), 0);
-    assert!(rt; queue.get(0).is_none());
-    assert!(rt; queue.take(paste_event(b"vwxyz")));
-    assert!(rt; is_paste(queue.get(0), b"vwxyz"));
+    assert_eq!(rt; queue.get(0), None);
+    assert!(rt; queue.take(InputEvent::Paste(b"vwxyz")));
+    assert_eq!(rt; queue.get(0), Some(InputEvent::Paste(b"vwxyz")));
 }
 
 // Whether an event alone is written as this line.
@@ -84,13 +84,13 @@ fn scripts(rt: HostRuntime) {
         key: KeyCode::Char(0x20ac),
         modifiers: Modifiers(20),
     });
-    assert!(rt; line.as_slice() == b"press\tChar\tC\t20AC".as_slice());
+    assert_eq!(rt; line.as_slice(), b"press\tChar\tC\t20AC".as_slice());
 }
 
 #[test]
 fn texts_and_reports(rt: HostRuntime) {
-    assert!(rt; writes(paste_event(b""), b"paste\t\n"));
-    assert!(rt; writes(paste_event(b"\x00\xabA\xff"), b"paste\t00AB41FF\n"));
+    assert!(rt; writes(InputEvent::Paste(b""), b"paste\t\n"));
+    assert!(rt; writes(InputEvent::Paste(b"\x00\xabA\xff"), b"paste\t00AB41FF\n"));
     assert!(rt; writes(report(1, 1, 0), b"report\t1\t1\t0\n"));
     assert!(rt; writes(report(65535, 10, 100), b"report\t65535\t10\t100\n"));
 }
@@ -98,7 +98,7 @@ fn texts_and_reports(rt: HostRuntime) {
 // Whether a text of 8,182 bytes is taken.
 fn takes_long_text(out: &mut LineWriter) -> bool {
     let text = [0x61; 8182];
-    out.take(paste_event(&text))
+    out.take(InputEvent::Paste(&text))
 }
 
 // 13 bytes and 7 + 2 x 8,182 are 16,384; the line of 14 bytes in front is one too many.
@@ -112,22 +112,22 @@ fn full_of_lines(rt: HostRuntime) {
     assert!(rt; out.take(report(1, 1, 0)));
     assert!(rt; takes_long_text(&mut out));
     assert_eq!(rt; out.as_slice().len(), 16384);
-    assert!(rt; !out.take(paste_event(b"")));
+    assert!(rt; !out.take(InputEvent::Paste(b"")));
     assert_eq!(rt; out.as_slice().len(), 16384);
 }
 
 #[test]
 fn focus(rt: HostRuntime) {
-    assert!(rt; found(Focus.look(b"\x1b[I"), 1));
-    assert!(rt; found(Focus.look(b"\x1b[O"), 0));
-    assert!(rt; found(Focus.look(b"\x1b[Ixyz"), 1));
-    assert!(rt; more(Focus.look(b"\x1b")));
-    assert!(rt; more(Focus.look(b"\x1b[")));
-    assert!(rt; none(Focus.look(b"\x1b[A")));
-    assert!(rt; none(Focus.look(b"\x1bOI")));
-    assert!(rt; none(Focus.look(b"")));
-    assert!(rt; none(Focus.look(b"[I")));
-    assert!(rt; none(NoReports.look(b"\x1b[I")));
+    assert_eq!(rt; Focus.look(b"\x1b[I"), found(1));
+    assert_eq!(rt; Focus.look(b"\x1b[O"), found(0));
+    assert_eq!(rt; Focus.look(b"\x1b[Ixyz"), found(1));
+    assert_eq!(rt; Focus.look(b"\x1b"), Seen::More);
+    assert_eq!(rt; Focus.look(b"\x1b["), Seen::More);
+    assert_eq!(rt; Focus.look(b"\x1b[A"), Seen::NoReport);
+    assert_eq!(rt; Focus.look(b"\x1bOI"), Seen::NoReport);
+    assert_eq!(rt; Focus.look(b""), Seen::NoReport);
+    assert_eq!(rt; Focus.look(b"[I"), Seen::NoReport);
+    assert_eq!(rt; NoReports.look(b"\x1b[I"), Seen::NoReport);
 }
 
 #[test]
@@ -136,6 +136,6 @@ fn reports_let_go(rt: HostRuntime) {
         inner: LineWriter::new(),
     };
     assert!(rt; sink.take(report(1, 1, 0)));
-    assert!(rt; sink.take(paste_event(b"a")));
-    assert!(rt; sink.inner.as_slice() == b"paste\t61\n".as_slice());
+    assert!(rt; sink.take(InputEvent::Paste(b"a")));
+    assert_eq!(rt; sink.inner.as_slice(), b"paste\t61\n".as_slice());
 }

@@ -1,6 +1,6 @@
 // What the bytes before have led to.
 
-#[derive(Clone, Copy)]
+#[derive(Clone, Copy, PartialEq, Eq, Debug)]
 pub enum InputState {
     // a key or a character may follow
     Normal,

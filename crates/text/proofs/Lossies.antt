@@ -1,6 +1,7 @@
 -- Lossy text, one character at a time. Assumes nothing.
-use Rattle.std.proofs.Common.{◌≡◌, ℕ, zero, suc, ◌+◌, ◌-◌, ◌*◌, ◌<◌, ◌≤◌, List, [], ◌∷◌, ◌++◌, length, take, drop, sym, refl, ap, ◌∙◌, arith, length-append}
-use Rattle.std.proofs.lemmas.List.{append_assoc, append-nil, drop_all, drop_at, drop-drop, length-drop, length-take-le, take-append-drop, take_at, take_rest}
+use Rattle.std.proofs.Common.{◌≡◌, true, false, ◌==◌, ℕ, zero, suc, ◌+◌, ◌-◌, ◌*◌, ◌<◌, ◌≤◌, List, [], ◌∷◌, ◌++◌, length, take, drop, sym, refl, ap, ◌∙◌, arith, length-append}
+use Rattle.std.proofs.lemmas.List.{append_assoc, append-nil, drop_at, drop-drop, length-drop, length-take-le, take-append-drop, take_at}
+use Rattle.std.proofs.lemmas.Bool.Decides.{nat_tests}
 use Rattle.text.specs.declared.kinds.Character.{Character}
 use Rattle.text.specs.declared.kinds.Character.TheVariants.{Scalar, IllFormed, Partial, Empty}
 use Rattle.text.specs.Reading.{character_of, Counted}
@@ -63,31 +64,27 @@ lossy_more (b ∷ bytes) h = at (taken (character_of (b ∷ bytes)) (b ∷ bytes
         let z : suc n - 1 ≡ n = omega arith in
         ap (λ (rest : List ℕ). shown (character_of (b ∷ bytes)) (b ∷ bytes) ++ rest) (ap (λ (m : ℕ). lossy_behind m bytes) z ∙ behind_is n bytes)
 
--- one step over a text: what is written, and how far it goes
-pub record Step (text : List ℕ) (at count : ℕ) (written : List ℕ) : Type 0 where
-  pub more : lossy_of (drop at text) ≡ written ++ lossy_of (drop (at + count) text)
-  pub longer : length (lossy_of (drop at text)) ≡ length written + length (lossy_of (drop (at + count) text))
-  pub some : 1 ≤ count
-  pub within : at + count ≤ length text
+-- one step over a text: what is written, and what is left
+pub record Step (text written rest : List ℕ) : Type 0 where
+  pub more : lossy_of text ≡ written ++ lossy_of rest
+  pub longer : length (lossy_of text) ≡ length written + length (lossy_of rest)
+  pub shorter : length rest < length text
 
-pub step : (text : List ℕ) (at count : ℕ) (written : List ℕ) → at < length text → count ≡ taken (character_of (take (length text - at) (drop at text))) (take (length text - at) (drop at text)) → written ≡ shown (character_of (take (length text - at) (drop at text))) (take (length text - at) (drop at text)) → Step text at count written
-step text at count written lt c w =
-    let rest = drop at text in
-    let l : length rest ≡ length text - at = length-drop at text in
-    let pc : count ≡ taken (character_of rest) rest = c ∙ ap (λ (part : List ℕ). taken (character_of part) part) (take_rest text at) in
-    let pw : written ≡ shown (character_of rest) rest = w ∙ ap (λ (part : List ℕ). shown (character_of part) part) (take_rest text at) in
-    let g = goes rest (omega arith) in
-    let m : lossy_of rest ≡ written ++ lossy_of (drop (at + count) text) = lossy_more rest (omega arith) ∙ (ap (λ (front : List ℕ). front ++ lossy_of (drop (taken (character_of rest) rest) rest)) (sym pw) ∙ ap (λ (l : List ℕ). written ++ lossy_of l) (ap (λ (n : ℕ). drop n rest) (sym pc) ∙ drop-drop count at text)) in
+pub step : (text written rest : List ℕ) → false ≡ (length text == 0) → written ≡ shown (character_of text) text → rest ≡ drop (taken (character_of text) text) text → Step text written rest
+step text written rest some w e =
+    let lt : 0 < length text = grind (arith, nat_tests) in
+    let g = goes text lt in
+    let m : lossy_of text ≡ written ++ lossy_of rest = lossy_more text lt ∙ (λ i. sym w i ++ lossy_of (sym e i)) in
     record {
       more = m;
-      longer = ap length m ∙ length-append written (lossy_of (drop (at + count) text));
-      some = omega (arith, g.some);
-      within = omega (arith, g.within);
+      longer = ap length m ∙ length-append written (lossy_of rest);
+      shorter = omega (arith, ap length e, length-drop (taken (character_of text) text) text, g.some, g.within);
     }
 
-pub lossy_none : (text : List ℕ) (at : ℕ) → length text ≤ at → lossy_of (drop at text) ≡ []
+pub lossy_none : (text : List ℕ) → true ≡ (length text == 0) → lossy_of text ≡ []
 unfolding lossy_behind
-lossy_none text at h = ap lossy_of (drop_all at text h)
+lossy_none [] e = refl
+lossy_none (b ∷ bytes) e = absurd (grind (arith, nat_tests))
 
 -- the output: what was written of the whole is in front, and behind it the output is as it was
 module _ (whole before : List ℕ) where

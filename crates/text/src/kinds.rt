@@ -1,7 +1,7 @@
 // What stands in front of bytes, the rows of well-formed UTF-8, and the cause of a refusal.
 
 // The first character of bytes.
-#[derive(Clone, Copy)]
+#[derive(Clone, Copy, PartialEq, Eq, Debug)]
 pub enum Character {
     // a Unicode scalar value, and the number of its bytes
     Scalar(u32, usize),
@@ -14,7 +14,7 @@ pub enum Character {
 }
 
 // What may follow a first byte: how many bytes, and the range of the first of them. The others are from 80 to BF.
-#[derive(Clone, Copy)]
+#[derive(Clone, Copy, PartialEq, Eq, Debug)]
 pub(crate) struct Row {
     pub(crate) more: usize,
     pub(crate) low: u8,
@@ -22,8 +22,8 @@ pub(crate) struct Row {
 }
 
 // Why text is not written.
-#[derive(Clone, Copy)]
+#[derive(Clone, Copy, PartialEq, Eq, Debug)]
 pub enum TextFault {
     // the output is shorter than the text
-    OutputTooShort,
+    OutputTooShort = 10,
 }

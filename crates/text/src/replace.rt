@@ -1,5 +1,5 @@
 // Text with U+FFFD for what is ill-formed.
-ghost use Rattle.std.specs.Prelude.{◌≡◌, ◌+◌, ◌*◌, ◌≤◌, true, ◌++◌, length, take, drop, is_ok, IfOk};
+ghost use Rattle.std.specs.Prelude.{◌≡◌, ◌+◌, ◌*◌, ◌≤◌, true, ◌++◌, length, take, drop, is_ok, is_none, IfOk, IfSome, ◌==◌};
 ghost use Rattle.text.specs.Reading.{character_of};
 ghost use Rattle.text.specs.Lossy.{number, taken, shown, lossy_of, up_to, told, written_in};
 
@@ -14,22 +14,21 @@ impl TextFault {
     pub fn number(self) -> u8
         ensures { result ≡ number self }
     {
-        match self {
-            TextFault::OutputTooShort => 10,
-        }
+        self as u8
     }
 }
 
-// How many bytes the first character or ill-formed subpart takes, and what is written for it.
-fn piece(text: &[u8]) -> (usize, &[u8])
-    ensures count { result.0 ≡ taken (character_of text.now) text.now }
-    ensures bytes { result.1.now ≡ shown (character_of text.now) text.now }
+// What is written for the first character or ill-formed subpart, and the bytes behind it, if there are any bytes.
+fn piece(text: &[u8]) -> Option<(&[u8], &[u8])>
+    ensures none { is_none result ≡ (length text.now == 0) }
+    ensures bytes { IfSome result (λ part. part.0.now ≡ shown (character_of text.now) text.now) }
+    ensures rest { IfSome result (λ part. part.1.now ≡ drop (taken (character_of text.now) text.now) text.now) }
 {
     match character(text) {
-        Character::Scalar(_, n) => (n, &text[..n]),
-        Character::IllFormed(n) => (n, &REPLACEMENT),
-        Character::Partial => (text.len(), &REPLACEMENT),
-        Character::Empty => (0, text),
+        Character::Scalar(_, n) => Some(text.split_at(n)),
+        Character::IllFormed(n) => Some((&REPLACEMENT, &text[n..])),
+        Character::Partial => Some((&REPLACEMENT, b"")),
+        Character::Empty => None,
     }
 }
 
@@ -38,14 +37,13 @@ fn lossy_len(text: &[u8], most: usize) -> Option<usize>
     ensures { result ≡ up_to most (length (lossy_of text.now)) }
 {
     let mut len = 0;
-    let mut at = 0;
-    while at < text.len() {
-        let (count, shown) = piece(&text[at..]);
+    let mut rest = text;
+    while let Some((shown, behind)) = piece(rest) {
         if shown.len() > most - len {
             return None;
         }
         len += shown.len();
-        at += count;
+        rest = behind;
     }
     Some(len)
 }
@@ -64,12 +62,11 @@ fn write_lossy(text: &[u8], out: &mut [u8])
     ensures { out.new ≡ lossy_of text.now ++ drop (length (lossy_of text.now)) out.old }
 {
     let mut len = 0;
-    let mut at = 0;
-    while at < text.len() {
-        let (count, shown) = piece(&text[at..]);
+    let mut rest = text;
+    while let Some((shown, behind)) = piece(rest) {
         write_part(shown, out, len);
         len += shown.len();
-        at += count;
+        rest = behind;
     }
 }
 

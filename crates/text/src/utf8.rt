@@ -40,9 +40,9 @@ fn may_stand(row: Row, place: usize, b: u8) -> bool
     ensures { result ≡ holds (range_at row place) b }
 {
     if place == 0 {
-        row.low <= b && b <= row.high
+        (row.low..=row.high).contains(&b)
     } else {
-        0x80 <= b && b <= 0xbf
+        (0x80..=0xbf).contains(&b)
     }
 }
 
@@ -51,15 +51,12 @@ fn fitting(row: Row, bytes: &[u8]) -> usize
     ensures value { result ≡ fits (ranges row) bytes.now }
     ensures count { result ≤ length bytes.now }
 {
-    for (n, b) in bytes.iter().enumerate() {
-        if n == row.more {
-            return n;
-        }
-        if !may_stand(row, n, *b) {
-            return n;
-        }
-    }
-    bytes.len()
+    bytes
+        .iter()
+        .take(row.more)
+        .enumerate()
+        .take_while(|(n, b)| may_stand(row, *n, **b))
+        .count()
 }
 
 // The six bits of a byte behind the first.

@@ -21,8 +21,5 @@ pub extern "C" fn cilvedroz_lossy(text: &[u8], out: &mut [u8]) -> u64 {
 // The place of the first marker, or the largest number where there is none.
 #[unsafe(no_mangle)]
 pub extern "C" fn cilvedroz_marker(text: &[u8]) -> u64 {
-    match find_marker(text) {
-        Some(place) => place as u64,
-        None => u64::MAX,
-    }
+    find_marker(text).map_or(u64::MAX, |place| place as u64)
 }

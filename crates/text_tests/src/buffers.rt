@@ -9,7 +9,7 @@ fn held_bytes(rt: HostRuntime) {
     assert!(rt; buffer.extend(b"de"));
     assert_eq!(rt; buffer.len(), 5);
     buffer.advance(2);
-    assert!(rt; buffer.as_slice() == b"cde".as_slice());
+    assert_eq!(rt; buffer.as_slice(), b"cde".as_slice());
     assert_eq!(rt; buffer.room(), CAPACITY - 3);
     buffer.advance(9);
     assert!(rt; buffer.is_empty());
@@ -26,7 +26,7 @@ fn full_buffer(rt: HostRuntime) {
     assert!(rt; buffer.extend(b"ab"));
     assert_eq!(rt; buffer.room(), 0);
     buffer.advance(4094);
-    assert!(rt; buffer.as_slice() == b"ab".as_slice());
+    assert_eq!(rt; buffer.as_slice(), b"ab".as_slice());
     buffer.clear();
     assert_eq!(rt; buffer.room(), CAPACITY);
 }

@@ -29,9 +29,9 @@ fn replaced(rt: HostRuntime) {
 #[test]
 fn output_too_short(rt: HostRuntime) {
     let mut out = [0xaa; 3];
-    match lossy(b"a\xff", &mut out) {
-        Ok(_) => assert!(rt; false),
-        Err(fault) => assert_eq!(rt; fault.number(), 10),
-    }
-    assert!(rt; &out == b"\xaa\xaa\xaa");
+    assert_eq!(rt;
+        lossy(b"a\xff", &mut out).map_err(|fault| fault.number()),
+        Err(10)
+    );
+    assert_eq!(rt; out, *b"\xaa\xaa\xaa");
 }

@@ -66,13 +66,13 @@ pub(crate) fn read_press(line: &str) -> Option<Press> {
         modify_other_keys: read_other(fields.next()?)?,
     };
     let is_down = read_flag(fields.next()?)?;
-    match fields.next() {
-        Some(_) => None,
-        None => Some(Press {
-            key,
-            mods,
-            modes,
-            is_down,
-        }),
+    if fields.next().is_some() {
+        return None;
     }
+    Some(Press {
+        key,
+        mods,
+        modes,
+        is_down,
+    })
 }

@@ -1,29 +1,16 @@
-use Rattle.std.proofs.Common.{◌≡◌, length, sym, ◌∙◌, arith}
+use Rattle.std.proofs.Common.{rules, tests, ◌∙◌}
+use Rattle.std.proofs.lemmas.Iterator.{YieldsList-from_slice, YieldsList-from_take}
+use Rattle.std.proofs.lemmas.Iterator.Consumers.{YieldsList-at, YieldsList-from_enumerate, count_from_yields_List}
+use Rattle.std.proofs.lemmas.Iterator.Search.{YieldsList-from_take_while}
 use Rattle.text.specs.Table.{◌to◌}
-use Rattle.text.proofs.Fitting.{fit_row_ends, fit_bytes_end, fit_more}
+use Rattle.text.proofs.Fitting.{stands, fit_count}
 use Rattle.text.proofs.utf8.fitting.Goals as goal
 
-pub returns-then-n-row : goal.returns-then-n-row
-returns-then-n-row c =
+pub returns-clause-value : goal.returns-clause-value
+returns-clause-value c =
     let row = c.args.row in
-    let e = fit_row_ends row.more (row.low to row.high) c.args.bytes.now c.loop-n.n (omega arith) in
-    record { value = sym e ∙ c.loop-n.invariant.1; count = omega arith }
-
-pub returns-then-not-may_stand : goal.returns-then-not-may_stand
-returns-then-not-may_stand c =
-    let row = c.args.row in
-    let m = fit_more row.more (row.low to row.high) c.args.bytes.now c.loop-n.n (omega arith) (omega arith) in
-    record { value = grind (arith, m); count = omega arith }
-
-pub loop-n-preserved : goal.loop-n-preserved
-loop-n-preserved c =
-    let row = c.args.row in
-    let m = fit_more row.more (row.low to row.high) c.args.bytes.now c.loop-n.n (omega arith) (omega arith) in
-    (omega arith, grind (arith, m))
-
-pub returns : goal.returns
-returns c =
-    let row = c.args.row in
-    let e = fit_bytes_end row.more (row.low to row.high) c.args.bytes.now c.loop-n.n (omega arith) in
-    let z : length c.args.bytes.now ≡ c.loop-n.n = omega arith in
-    record { value = z ∙ (sym e ∙ c.loop-n.invariant.1); count = omega arith }
+    let taken = YieldsList-from_take row.more (YieldsList-at c.take.ensures.source (YieldsList-from_slice c.args.bytes.now c.iter.ensures.rest)) c.take.ensures.count in
+    let placed = YieldsList-from_enumerate (YieldsList-at c.enumerate.ensures.source taken) c.enumerate.ensures.count in
+    count_from_yields_List _ c.count.result c.count.ensures.ran
+    (YieldsList-from_take_while _ (stands (row.low to row.high)) (YieldsList-at c.take_while.ensures.source placed) c.take_while.ensures.closure c.take_while.ensures.done (λ x b q k. search (rules, tests)))
+    ∙ fit_count row.more (row.low to row.high) c.args.bytes.now
