@@ -2,7 +2,7 @@
 ghost use Rattle.std.specs.Prelude.{◌≡◌};
 ghost use Rattle.character.specs.Typed.{level_of, level_route, route_of, claimed};
 
-use crate::control::{is_ambiguous_ascii_ctrl, is_well_known};
+use crate::control::{is_ambiguous_ascii_ctrl, is_upper, is_well_known};
 use crate::level::{Level, Route};
 use keycode::{KeyCodeEncodeModes, KeyboardEncoding};
 
@@ -18,7 +18,7 @@ pub fn level_of(value: Option<i64>) -> Level
     }
 }
 
-fn level_route(level: Level, c: char) -> Route
+fn level_route(level: Level, c: u32) -> Route
     ensures { result ≡ level_route level c }
 {
     match level {
@@ -29,10 +29,10 @@ fn level_route(level: Level, c: char) -> Route
 }
 
 // How a modified character is sent.
-pub(crate) fn route(c: char, modes: KeyCodeEncodeModes) -> Route
+pub(crate) fn route(c: u32, modes: KeyCodeEncodeModes) -> Route
     ensures { result ≡ route_of c modes }
 {
-    if matches!(modes.encoding, KeyboardEncoding::CsiU) && c.is_ascii() {
+    if matches!(modes.encoding, KeyboardEncoding::CsiU) && c < 0x80 {
         Route::Unicode
     } else {
         level_route(level_of(modes.modify_other_keys), c)
@@ -40,11 +40,11 @@ pub(crate) fn route(c: char, modes: KeyCodeEncodeModes) -> Route
 }
 
 // Whether CTRL with this character is sent as a modified character, whatever its control character.
-pub(crate) fn is_claimed(c: char, modes: KeyCodeEncodeModes) -> bool
+pub(crate) fn is_claimed(c: u32, modes: KeyCodeEncodeModes) -> bool
     ensures { result ≡ claimed c modes }
 {
     if matches!(modes.encoding, KeyboardEncoding::CsiU) && is_ambiguous_ascii_ctrl(c) {
         return true;
     }
-    c.is_ascii_uppercase() || level_of(modes.modify_other_keys) == Level::Two
+    is_upper(c) || level_of(modes.modify_other_keys) == Level::Two
 }

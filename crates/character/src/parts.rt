@@ -17,8 +17,8 @@ pub type Sequence = ArrayVec<u8, LONGEST>;
 
 // The modifier parameter: one digit.
 #[tactic(auto, using(writer::proofs::Digits::dec_digit))]
-pub fn push_parameter(out: &mut Sequence, mods: Modifiers)
-    requires { array_vec_len out.old < 15 }
+pub fn push_parameter<const N: usize>(out: &mut ArrayVec<u8, N>, mods: Modifiers)
+    requires { array_vec_len out.old + 1 ≤ N }
     ensures bytes { out.new.items ≡ out.old.items ++ parameter mods.0 }
     ensures len { array_vec_len out.new ≡ array_vec_len out.old + 1 }
 {

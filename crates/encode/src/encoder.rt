@@ -26,10 +26,10 @@ fn backspace(mods: Modifiers, modes: KeyCodeEncodeModes) -> Sequence
     ensures { result.items ≡ backspace mods.0 modes }
 {
     if mods.contains(Modifiers::CTRL) {
-        return csi_u_encode('\x08', mods, modes);
+        return csi_u_encode('\x08'.into(), mods, modes);
     }
     if mods.contains(Modifiers::SHIFT) {
-        return csi_u_encode('\x7f', mods, modes);
+        return csi_u_encode('\x7f'.into(), mods, modes);
     }
     let mut out = escape_for_alt(mods);
     out.push(0x7f);
@@ -43,7 +43,7 @@ fn own_character(c: char, text: &[u8], mods: Modifiers, modes: KeyCodeEncodeMode
     ensures { result.items ≡ own_character c text.now mods.0 modes }
 {
     if mods.contains(Modifiers::SHIFT) || mods.contains(Modifiers::CTRL) {
-        return csi_u_encode(c, mods, modes);
+        return csi_u_encode(c.into(), mods, modes);
     }
     let mut out = escape_for_alt(mods);
     extend(&mut out, text);
@@ -76,7 +76,7 @@ fn tab(mods: Modifiers, modes: KeyCodeEncodeModes) -> Sequence
     ensures { result.items ≡ tab mods.0 modes }
 {
     if !mods.is_empty() && level_of(modes.modify_other_keys) != Level::Off {
-        return csi_u_encode('\t', mods, modes);
+        return csi_u_encode('\t'.into(), mods, modes);
     }
     let mut out = escape_for_alt(mods);
     extend(&mut out, tab_text(mods.remove(Modifiers::ALT)));
@@ -96,7 +96,7 @@ fn press(form: Form, mods: Modifiers, modes: KeyCodeEncodeModes) -> Sequence
     ensures { result.items ≡ by_form form mods.0 modes }
 {
     match form {
-        Form::Typed(c) => encode_character(c, mods, modes),
+        Form::Typed(c) => encode_character(c.into(), mods, modes),
         Form::Cursor(last) => letter_key(cursor_intro(modes.application_cursor_keys), last, mods),
         Form::Application(last) => letter_key(b'O', last, mods),
         Form::Keypad(last) => letter_key(b'[', last, mods),

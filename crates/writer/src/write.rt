@@ -59,14 +59,40 @@ pub fn hexadecimal<const N: usize>(out: &mut ArrayVec<u8, N>, n: u32)
     extend(out, numeral(n, 16).as_slice());
 }
 
-// A character in UTF-8.
-pub fn utf8<const N: usize>(out: &mut ArrayVec<u8, N>, c: char)
-    requires { array_vec_len out.old + length (utf8_of c) ≤ N }
+// A code point in UTF-8. Not `char::encode_utf8`: a `char` is no surrogate, and the number of one is taken here.
+pub fn utf8<const N: usize>(out: &mut ArrayVec<u8, N>, c: u32)
+    requires room { array_vec_len out.old + length (utf8_of c) ≤ N }
+    requires plane { c < 1114112 }
     ensures bytes { out.new.items ≡ out.old.items ++ utf8_of c }
     ensures len { array_vec_len out.new ≡ array_vec_len out.old + length (utf8_of c) }
 {
-    let mut bytes = [0; 4];
-    extend(out, c.encode_utf8(&mut bytes).as_bytes());
+    if c < 0x80 {
+        out.push(c as u8);
+    } else if c < 0x800 {
+        extend(out, &[0xc0 + (c / 64) as u8, trailing(c)]);
+    } else if c < 0x10000 {
+        extend(
+            out,
+            &[0xe0 + (c / 4096) as u8, trailing(c / 64), trailing(c)],
+        );
+    } else {
+        extend(
+            out,
+            &[
+                0xf0 + (c / 262144) as u8,
+                trailing(c / 4096),
+                trailing(c / 64),
+                trailing(c),
+            ],
+        );
+    }
+}
+
+// The byte that carries a number's lowest six bits.
+fn trailing(c: u32) -> u8
+    ensures { result ≡ 128 + c % 64 }
+{
+    0x80 + (c % 64) as u8
 }
 
 // An uppercase hexadecimal digit.
