@@ -58,11 +58,8 @@ module _ {V : Type 0} where
       let n = length m.nodes.now in
       (said s h ∙ one_said n s e, subst (λ (x : Stored V). Holds next x) (one_stored n s e) (held s h))
 
-  -- entries part by part: nothing yet, one part more, a refusal, the end
+  -- entries part by part: one part more, a refusal, the end
   module _ (start m next : KeyMap V) (es : List (Entry V)) where
-    pub left_none : FillsLeft start start es es
-    left_none s h = (s, (h, refl))
-
     module _ (left xs ys : List (Entry V)) (so : FillsLeft start m left es) (parts : left ≡ xs ++ ys) (supplied : length m.nodes.now ≡ length start.nodes.now) where
       abbrev Part : Result (Unit {0}) MapFault → Stored V → ℕ → Type 0
       Part r cur n = (r ≡ (filled n cur xs).said) × Holds next (filled n cur xs).stored

@@ -34,6 +34,7 @@ impl<'a, V: Copy> Tree<'a, V> {
     }
 
     // Where, among the children of `at`, the label `b` stands or would stand.
+    // It goes along the links of siblings, which stand anywhere on the caller's nodes, so no iterator of a slice serves.
     pub(crate) fn find_place(&self, at: usize, b: u8) -> Place
         requires { at < self.now.used }
         ensures { (up : ℕ → ℕ) → Well up self.now.nodes.now self.now.used → Placed up self.now.nodes.now self.now.used at b result.before result.here }
