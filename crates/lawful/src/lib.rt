@@ -8,14 +8,18 @@ ghost use Rattle.keycode.specs.declared.key.KeyEvent.{KeyEvent};
 ghost use Rattle.lawful.specs.Lawful.{is_plain_escape, lawful};
 ghost use Rattle.lawful.specs.Told.{some_exact, escape_exact};
 
-use keycode::{KeyCode, KeyEvent, place};
+use keycode::{KeyCode, KeyEvent, Modifiers};
 use keymap::{Found, KeyMap, MapFault};
 
 // Whether a press is Escape without modifiers.
 pub fn is_plain_escape(event: KeyEvent) -> bool
     ensures { result ≡ is_plain_escape event }
 {
-    place(event.key) == place(KeyCode::Escape) && event.modifiers.0 == 0
+    event
+        == KeyEvent {
+            key: KeyCode::Escape,
+            modifiers: Modifiers(0),
+        }
 }
 
 // Whether a lookup is answered by a key, and by no longer one.
