@@ -6,7 +6,7 @@ use crate::control::{is_ambiguous_ascii_ctrl, is_upper, is_well_known};
 use crate::level::{Level, Route};
 use keycode::{KeyCodeEncodeModes, KeyboardEncoding};
 
-// The level of modifyOtherKeys: 0 counts as absent.
+// The level of modifyOtherKeys: 0 counts as absent. No `From`: not every number is a level, and this name says what is read.
 pub fn level_of(value: Option<i64>) -> Level
     ensures { result ≡ level_of value }
 {

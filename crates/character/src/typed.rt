@@ -102,7 +102,8 @@ fn numbered(c: CodePoint, mods: Modifiers) -> Sequence
     out
 }
 
-// A modified character, as the modes ask.
+// A modified character, as the modes ask. `mods` and `modes` stay two arguments, here and in `encode`: on the way to the bytes
+// the modifiers change, and the modes do not.
 #[tactic(auto, unfolding(crate::specs::Typed::other_key))]
 pub fn csi_u_encode(c: CodePoint, mods: Modifiers, modes: KeyCodeEncodeModes) -> Sequence
     ensures { result.items ≡ other_key c.number mods.0 modes }

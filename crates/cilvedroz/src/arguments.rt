@@ -1,4 +1,5 @@
-// The numbers of the C interface as keys, modifiers and modes.
+// The numbers of the C interface as keys, modifiers and modes: by functions, since the types are those of another crate and the
+// numbers are C's.
 ghost use Rattle.std.specs.Prelude.{◌≡◌, ℕ, min};
 ghost use Rattle.cilvedroz.specs.Arguments.{key_of, encoding_of, other_of, modes_of};
 

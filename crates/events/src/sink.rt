@@ -13,7 +13,7 @@ pub trait Sink {
 
     ghost offer: { Held → Told → Option Held };
 
-    // Whether the event is taken. A sink that leaves an event is as it was.
+    // Whether the event is taken: a `bool`, since a sink that leaves an event is as it was and has nothing more to tell.
     fn take(&mut self, event: InputEvent<'_>) -> bool
         ensures after { result ≡ true → offer (held self.old) (told event.entry) ≡ Some (held self.new) }
         ensures stays { result ≡ false → (offer (held self.old) (told event.entry) ≡ None) × (self.new ≡ self.old) };

@@ -36,7 +36,7 @@ fn main(rt: HostRuntime) -> io::Result<()> {
     }
 }
 
-// Says that the table does not fit its nodes.
+// Says that the table does not fit its nodes. `keyline` has the same with words of its own.
 fn refused(rt: &HostRuntime, fault: MapFault) -> io::Result<()> {
     let number = fault.number();
     eprintln!(rt; "keytable: the table does not fit its nodes: refused {number}")

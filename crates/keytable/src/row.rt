@@ -28,6 +28,15 @@ struct Entry {
 }
 
 impl Entry {
+    // The entry at a place of a rule, both from 0.
+    fn at(number: u8, rule: Rule, place: usize) -> Option<Entry> {
+        Some(Entry {
+            rule: number,
+            place: u16::try_from(place).ok()?,
+            key: entry_at(rule, place)?,
+        })
+    }
+
     // The rule and the place, from 1, and the key in hexadecimal, with tabs between.
     #[tactic(auto, using(writer::proofs::Digits::dec_most))]
     fn fields(&self) -> ArrayVec<u8, FIELDS>
@@ -57,7 +66,7 @@ impl Entry {
     }
 }
 
-// Prints the entries of a rule, and counts them.
+// Prints the entries of a rule, and counts them. It goes by places, which are printed too.
 pub(crate) fn print_rule(
     rt: &HostRuntime,
     map: &KeyMap<KeyEvent>,
@@ -67,12 +76,7 @@ pub(crate) fn print_rule(
 ) -> io::Result<Totals> {
     let mut totals = totals;
     for place in 0..count(rule) {
-        if let Some(key) = entry_at(rule, place) {
-            let entry = Entry {
-                rule: number,
-                place: place as u16,
-                key,
-            };
+        if let Some(entry) = Entry::at(number, rule, place) {
             entry.print(rt)?;
             totals = totals.with(entry.key.bytes.len(), entry.is_replaced(map));
         }
@@ -80,7 +84,7 @@ pub(crate) fn print_rule(
     Ok(totals)
 }
 
-// Prints the entries of a rule that later ones replace.
+// Prints the entries of a rule that later ones replace, with their places.
 pub(crate) fn print_replaced(
     rt: &HostRuntime,
     map: &KeyMap<KeyEvent>,
@@ -88,12 +92,7 @@ pub(crate) fn print_replaced(
     rule: Rule,
 ) -> io::Result<()> {
     for place in 0..count(rule) {
-        if let Some(key) = entry_at(rule, place) {
-            let entry = Entry {
-                rule: number,
-                place: place as u16,
-                key,
-            };
+        if let Some(entry) = Entry::at(number, rule, place) {
             if entry.is_replaced(map) {
                 let mut out = rt.stdout();
                 out.write_all(b"replaced\t")?;

@@ -15,6 +15,7 @@ pub enum Step {
     Lookup(Bytes, bool),
 }
 
+// The value of an uppercase hexadecimal digit. Not `char::to_digit`, which takes lowercase letters too.
 fn digit(b: u8) -> Option<u8>
     ensures { IfSome result (λ d. d < 16) }
 {
@@ -37,6 +38,7 @@ fn read_hex(text: &[u8]) -> Option<Bytes> {
     Some(bytes)
 }
 
+// As in `vectors`: the two programs have no crate below them that reads fields.
 fn read_flag(text: &str) -> Option<bool> {
     match text {
         "0" => Some(false),

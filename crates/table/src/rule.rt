@@ -5,7 +5,8 @@ use keycode::{KeyCode, KeyEvent};
 // The bytes of the longest key.
 pub const LONGEST: usize = 11;
 
-// A rule, in the order of filling.
+// A rule, in the order of filling. An enum that is matched on, and no table of functions: the nine are fixed, and a definition
+// goes by them.
 #[derive(Clone, Copy, Debug, PartialEq, Eq)]
 pub enum Rule {
     Letters,

@@ -33,7 +33,8 @@ fn tell_key(map: &KeyMap<KeyEvent>, key: &TableKey, out: &mut [u8]) {
     }
 }
 
-// Tells the keys of a rule from `start` on; answers where the next rule's start.
+// Tells the keys of a rule from `start` on, by places, since a key's record stands at its place; answers where the next
+// rule's start.
 fn tell_rule(map: &KeyMap<KeyEvent>, rule: Rule, out: &mut [u8], start: usize) -> usize {
     let mut at = start;
     for place in 0..count(rule) {

@@ -37,6 +37,7 @@ fn read_encoding(text: &str) -> Option<KeyboardEncoding>
     }
 }
 
+// As in `map_vectors`: the two programs have no crate below them that reads fields.
 fn read_flag(text: &str) -> Option<bool>
     ensures { result ≡ flag_of text.now }
 {
