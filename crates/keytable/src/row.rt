@@ -66,7 +66,7 @@ impl Entry {
     }
 }
 
-// Prints the entries of a rule, and counts them. It goes by places, which are printed too.
+// Prints the entries of a rule, and counts them.
 pub(crate) fn print_rule(
     rt: &HostRuntime,
     map: &KeyMap<KeyEvent>,
@@ -75,30 +75,26 @@ pub(crate) fn print_rule(
     totals: Totals,
 ) -> io::Result<Totals> {
     let mut totals = totals;
-    for place in 0..count(rule) {
-        if let Some(entry) = Entry::at(number, rule, place) {
-            entry.print(rt)?;
-            totals = totals.with(entry.key.bytes.len(), entry.is_replaced(map));
-        }
+    for entry in (0..count(rule)).filter_map(|place| Entry::at(number, rule, place)) {
+        entry.print(rt)?;
+        totals = totals.with(entry.key.bytes.len(), entry.is_replaced(map));
     }
     Ok(totals)
 }
 
-// Prints the entries of a rule that later ones replace, with their places.
+// Prints the entries of a rule that later ones replace.
 pub(crate) fn print_replaced(
     rt: &HostRuntime,
     map: &KeyMap<KeyEvent>,
     number: u8,
     rule: Rule,
 ) -> io::Result<()> {
-    for place in 0..count(rule) {
-        if let Some(entry) = Entry::at(number, rule, place) {
-            if entry.is_replaced(map) {
-                let mut out = rt.stdout();
-                out.write_all(b"replaced\t")?;
-                out.write_all(entry.fields().as_slice())?;
-                out.write_all(b"\n")?;
-            }
+    for entry in (0..count(rule)).filter_map(|place| Entry::at(number, rule, place)) {
+        if entry.is_replaced(map) {
+            let mut out = rt.stdout();
+            out.write_all(b"replaced\t")?;
+            out.write_all(entry.fields().as_slice())?;
+            out.write_all(b"\n")?;
         }
     }
     Ok(())

@@ -3,7 +3,7 @@
 use basic::build_basic_key_map;
 use keycode::{KeyCode, KeyEvent, place};
 use keymap::{KeyMap, Node};
-use table::{RULES, Rule, TableKey, count, entry_at};
+use table::{RULES, TableKey, count, entry_at};
 use words::word;
 
 // The bytes of a record.
@@ -33,20 +33,6 @@ fn tell_key(map: &KeyMap<KeyEvent>, key: &TableKey, out: &mut [u8]) {
     }
 }
 
-// Tells the keys of a rule from `start` on, by places, since a key's record stands at its place; answers where the next
-// rule's start.
-fn tell_rule(map: &KeyMap<KeyEvent>, rule: Rule, out: &mut [u8], start: usize) -> usize {
-    let mut at = start;
-    for place in 0..count(rule) {
-        if let Some(key) = entry_at(rule, place) {
-            let from = at.min(out.len());
-            tell_key(map, &key, &mut out[from..]);
-        }
-        at = at.saturating_add(RECORD);
-    }
-    at
-}
-
 // Builds the table on the nodes and tells what is stored of it.
 pub(crate) fn tell_built(nodes: &mut [Node<KeyEvent>], out: &mut [u8]) -> u32 {
     let mut map = KeyMap::new(nodes);
@@ -54,9 +40,11 @@ pub(crate) fn tell_built(nodes: &mut [Node<KeyEvent>], out: &mut [u8]) -> u32 {
         Ok(()) => 0,
         Err(fault) => fault.number(),
     };
-    let mut at = 0;
-    for rule in RULES {
-        at = tell_rule(&map, rule, out, at);
+    let keys = RULES.iter().flat_map(|rule| (0..count(*rule)).filter_map(|place| entry_at(
+        *rule, place,
+    )));
+    for (key, record) in keys.zip(out.chunks_mut(RECORD)) {
+        tell_key(&map, &key, record);
     }
     refused as u32 * 65536 + map.used().min(65535) as u32
 }
