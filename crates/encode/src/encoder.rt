@@ -12,7 +12,7 @@ use keycode::{KeyCode, KeyCodeEncodeModes, Modifiers};
 use writer::extend;
 
 impl EncodeFault {
-    // The number by which the refusal is told.
+    // The number by which the refusal is told. Each layer has a fault and a definition of its own, and no crate below them all.
     pub fn number(self) -> u8
         ensures { result ≡ number self }
     {
@@ -148,7 +148,8 @@ fn encode_down(
 }
 
 // The bytes that a terminal sends for a key, to the front of the output, and their count; or a refusal, which leaves the
-// output as it was. Past the count the output stays. A key up sends nothing. No press has more than 15 bytes.
+// output as it was. Past the count the output stays. A key up sends nothing. No press has more than 15 bytes. The three clauses
+// are those of `encode_plain` too: each call says them, so that its reader needs no other page.
 pub fn encode(
     key: KeyCode,
     mods: Modifiers,

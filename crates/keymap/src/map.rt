@@ -15,7 +15,7 @@ use crate::walk::Tree;
 pub const MAX_KEY: usize = 64;
 
 impl MapFault {
-    // The number by which the refusal is told.
+    // The number by which the refusal is told; each layer has a fault and a definition of its own.
     pub fn number(self) -> u8
         ensures { result ≡ number self }
     {

@@ -17,7 +17,7 @@ use words::{Script, Verb, word};
 pub const LONGEST: usize = 8210;
 
 impl LineFault {
-    // The number by which the fault is told.
+    // The number by which the fault is told; each layer has a fault and a definition of its own.
     pub fn number(self) -> u8
         ensures { result ≡ number self }
     {

@@ -11,17 +11,26 @@ use arrayvec::ArrayVec;
 use keycode::{KeyCode, KeyEvent, Modifiers};
 use writer::{decimal, written};
 
-// The modifiers of a parameter, or none for 0.
-pub(crate) fn mods_of(n: u8) -> Modifiers
-    requires { n ≤ 16 }
-    ensures { result.0 ≡ mods_of n }
-{
-    if n == 0 {
-        Modifiers(0)
-    } else if n < 9 {
-        Modifiers((n - 1) as u16)
-    } else {
-        Modifiers((n - 9) as u16 | Modifiers::ALT.0)
+// The parameter of a sequence, or 0 for none.
+#[derive(Clone, Copy)]
+pub(crate) struct Parameter {
+    pub(crate) number: u8,
+    ghost last: { number ≤ 16 },
+}
+
+impl Parameter {
+    // The modifiers of a parameter, or none for 0.
+    pub(crate) fn modifiers(self) -> Modifiers
+        ensures { result.0 ≡ mods_of self.number }
+    {
+        let n = self.number;
+        if n == 0 {
+            Modifiers(0)
+        } else if n < 9 {
+            Modifiers((n - 1) as u16)
+        } else {
+            Modifiers((n - 9) as u16 | Modifiers::ALT.0)
+        }
     }
 }
 
@@ -51,23 +60,21 @@ pub(crate) fn marked(text: &[u8], byte: u8, key: KeyCode, modifiers: Modifiers) 
 
 // Writes `;` and the parameter, or nothing for 0.
 #[tactic(auto, using(writer::proofs::Digits::dec_two))]
-fn push_parameter(out: &mut ArrayVec<u8, LONGEST>, n: u8)
-    requires room { array_vec_len out.old ≤ 7 }
-    requires last { n ≤ 16 }
-    ensures bytes { out.new.items ≡ out.old.items ++ parameter n }
+fn push_parameter(out: &mut ArrayVec<u8, LONGEST>, n: Parameter)
+    requires { array_vec_len out.old ≤ 7 }
+    ensures bytes { out.new.items ≡ out.old.items ++ parameter n.number }
     ensures len { array_vec_len out.new ≤ array_vec_len out.old + 3 }
 {
-    if n > 0 {
+    if n.number > 0 {
         out.push(b';');
-        decimal(out, n as u32);
+        decimal(out, n.number as u32);
     }
 }
 
 // The bytes so far, a parameter or none for 0, and the final byte.
-fn finish(before: ArrayVec<u8, LONGEST>, n: u8, last: u8, key: KeyCode) -> TableKey
-    requires room { array_vec_len before ≤ 7 }
-    requires last { n ≤ 16 }
-    ensures { told result ≡ form before.items last key n }
+fn finish(before: ArrayVec<u8, LONGEST>, n: Parameter, last: u8, key: KeyCode) -> TableKey
+    requires { array_vec_len before ≤ 7 }
+    ensures { told result ≡ form before.items last key n.number }
 {
     let mut bytes = before;
     push_parameter(&mut bytes, n);
@@ -76,25 +83,23 @@ fn finish(before: ArrayVec<u8, LONGEST>, n: u8, last: u8, key: KeyCode) -> Table
         bytes,
         event: KeyEvent {
             key,
-            modifiers: mods_of(n),
+            modifiers: n.modifiers(),
         },
     }
 }
 
 // A text, a parameter or none for 0, and the final byte.
-pub(crate) fn parametered(text: &[u8], n: u8, last: u8, key: KeyCode) -> TableKey
-    requires room { length text.now ≤ 7 }
-    requires last { n ≤ 16 }
-    ensures { told result ≡ form text.now last key n }
+pub(crate) fn parametered(text: &[u8], n: Parameter, last: u8, key: KeyCode) -> TableKey
+    requires { length text.now ≤ 7 }
+    ensures { told result ≡ form text.now last key n.number }
 {
     finish(written(text), n, last, key)
 }
 
 // CSI and a number, a parameter or none for 0, and the final byte.
 #[tactic(auto, using(writer::proofs::Digits::dec_byte))]
-pub(crate) fn numbered(number: u8, n: u8, last: u8, key: KeyCode) -> TableKey
-    requires { n ≤ 16 }
-    ensures { told result ≡ form (csi (dec number)) last key n }
+pub(crate) fn numbered(number: u8, n: Parameter, last: u8, key: KeyCode) -> TableKey
+    ensures { told result ≡ form (csi (dec number)) last key n.number }
 {
     let mut bytes = written(b"\x1b[");
     decimal(&mut bytes, number as u32);

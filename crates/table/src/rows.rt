@@ -3,7 +3,7 @@ ghost use Rattle.std.specs.Prelude.{◌≡◌, ◌+◌, ◌-◌, ◌<◌, ◌≤
 ghost use Rattle.table.specs.Table.{entry, letter_row, csi_u_row, key_of, other_key_row, cursor_row, rxvt_row, application_row, numbers, function_row, editing_row, single_keys};
 ghost use Rattle.table.specs.Told.{told, blank};
 
-use crate::forms::{keyed, marked, mods_of, numbered, parametered};
+use crate::forms::{Parameter, keyed, marked, numbered, parametered};
 use crate::rule::{Lettered, Marked, TableKey};
 use character::ESC;
 use keycode::{KeyCode, KeyEvent, Modifiers};
@@ -41,7 +41,7 @@ pub(crate) fn csi_u_key(c: u8, n: u8) -> TableKey
     requires { n < 9 }
     ensures { told result ≡ slice_index_or (csi_u_row c) n blank }
 {
-    numbered(c, n, b'u', KeyCode::Char(c as u32))
+    numbered(c, Parameter { number: n }, b'u', KeyCode::Char(c as u32))
 }
 
 // The key of a character in a modifyOtherKeys sequence.
@@ -73,7 +73,7 @@ pub(crate) fn other_key(c: u8, form: u8) -> TableKey
         bytes,
         event: KeyEvent {
             key: key_of(c),
-            modifiers: mods_of(n),
+            modifiers: Parameter { number: n }.modifiers(),
         },
     }
 }
@@ -93,7 +93,7 @@ pub(crate) fn cursor_key(l: Lettered, form: u8) -> TableKey
     if form == 0 {
         letter_alone(l)
     } else {
-        parametered(b"\x1b[1", form - 1, l.last, l.key)
+        parametered(b"\x1b[1", Parameter { number: form - 1 }, l.last, l.key)
     }
 }
 
@@ -117,7 +117,7 @@ pub(crate) fn application_key(l: Marked, form: u8) -> TableKey
     if form == 0 {
         marked(b"\x1bO", l.byte, l.key, NONE)
     } else {
-        parametered(b"\x1bO1", form - 1, l.byte, l.key)
+        parametered(b"\x1bO1", Parameter { number: form - 1 }, l.byte, l.key)
     }
 }
 
@@ -128,7 +128,12 @@ pub(crate) fn function_key(k: u8, n: u8) -> TableKey
     requires form { n < 17 }
     ensures { told result ≡ slice_index_or (function_row k) n blank }
 {
-    numbered(NUMBERS[k as usize - 1], n, b'~', KeyCode::Function(k))
+    numbered(
+        NUMBERS[k as usize - 1],
+        Parameter { number: n },
+        b'~',
+        KeyCode::Function(k),
+    )
 }
 
 // CSI digit: the key alone, with SHIFT, with CTRL, with both.

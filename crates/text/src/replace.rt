@@ -10,7 +10,7 @@ use crate::utf8::character;
 const REPLACEMENT: [u8; 3] = *b"\xef\xbf\xbd";
 
 impl TextFault {
-    // The number by which the refusal is told.
+    // The number by which the refusal is told; each layer has a fault and a definition of its own.
     pub fn number(self) -> u8
         ensures { result ≡ number self }
     {
