@@ -1,8 +1,10 @@
 -- Records, the texts behind them, and one record more. Assumes nothing.
 use Rattle.std.proofs.Common.{◌≡◌, ℕ, suc, ◌+◌, ◌<◌, ◌≤◌, ◌⊎◌, inl, inr, Bool, true, false, cond, ◌&&◌, ltb, leb, List, [], ◌∷◌, ◌++◌, map, length, get_or, take, drop, Some, None, Option, sym, refl, ap, ◌∙◌, arith, length-drop, length-append}
 use Rattle.std.proofs.Math.ListN.{length-map}
-use Rattle.std.proofs.lemmas.List.{drop-append-le, drop_at, get_or_append_left, get_or_push, length-take-le, map_push, take-append-le, take_all}
+use Rattle.std.proofs.lemmas.List.{drop-append-le, drop_at, get_or-map, get_or_append_left, get_or_push, length-take-le, map_push, take-append-le, take_all}
+use Rattle.std.proofs.lemmas.Option.{slice_get-get_or}
 use Rattle.std.proofs.lemmas.Bool.{cases_lt, lt-ltb, le-ltb, le-leb, lt-leb}
+use Rattle.std.specs.List.{slice_get}
 use Rattle.std.specs.Prelude.{Result, Ok, Err, IsOk, OnOk}
 use Rattle.events.specs.Told.{Told, key, paste, report, text_of}
 use Rattle.events.specs.Records.{none, told_of, record_at, size_of, end_of, total}
@@ -80,6 +82,11 @@ module _ {R T : ℕ} (q : Queue R T) where
 
   count_is : length events ≡ length rs
   count_is = length-map rs (told_of texts)
+
+  pub event_at : (i : ℕ) → i < length rs → slice_get (held_by q).taken i ≡ Some (told_of texts (get_or rs i none))
+  event_at i l =
+      slice_get-get_or events i (told_of texts none) (omega (arith, count_is))
+      ∙ ap Some (get_or-map (told_of texts) rs i none _ (omega arith))
 
   size_is : text_bytes events ≡ length texts
   size_is = sizes_told texts rs q.within ∙ sym q.full

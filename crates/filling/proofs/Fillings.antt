@@ -1,8 +1,8 @@
 -- A filling, part by part. Assumes nothing.
-use Rattle.std.proofs.Common.{◌≡◌, ℕ, List, [], ◌∷◌, ◌++◌, length, Some, None, Ok, Err, Option, Result, sym, refl, ap, ◌∙◌, subst, arith}
+use Rattle.std.proofs.Common.{◌≡◌, ℕ, ◌+◌, List, [], ◌∷◌, ◌++◌, length, drop, Some, None, Ok, Err, Option, Result, sym, refl, ap, ◌∙◌, subst, arith}
 use Rattle.keymap.specs.declared.found.MapFault.{MapFault}
 use Rattle.keymap.specs.declared.node.KeyMap.{KeyMap}
-use Rattle.filling.specs.Filling.{Outcome, onward, filled, Fills, FillsLeft, Puts, PutsLeft}
+use Rattle.filling.specs.Filling.{Outcome, onward, filled, Fills, FilledTo, FillsLeft, Puts, PutsLeft}
 use Rattle.keymap.specs.Finding.{unless}
 use Rattle.keymap.specs.Holding.{Holds}
 use Rattle.keymap.specs.Room.{insert_cause, after}
@@ -58,8 +58,11 @@ module _ {V : Type 0} where
       let n = length m.nodes.now in
       (said s h ∙ one_said n s e, subst (λ (x : Stored V). Holds next x) (one_stored n s e) (held s h))
 
-  -- entries part by part: one part more, a refusal, the end
+  -- entries part by part: nothing yet, one part more, a refusal, the end
   module _ (start m next : KeyMap V) (es : List (Entry V)) where
+    pub left_none : FillsLeft start start es es
+    left_none s h = (s, (h, refl))
+
     module _ (left xs ys : List (Entry V)) (so : FillsLeft start m left es) (parts : left ≡ xs ++ ys) (supplied : length m.nodes.now ≡ length start.nodes.now) where
       abbrev Part : Result (Unit {0}) MapFault → Stored V → ℕ → Type 0
       Part r cur n = (r ≡ (filled n cur xs).said) × Holds next (filled n cur xs).stored
@@ -89,6 +92,20 @@ module _ {V : Type 0} where
         let was = so s h in
         let whole : filled n was.0 [] ≡ filled n s es = sym (ap (filled n was.0) done) ∙ was.1.1 in
         (ap (λ (o : Outcome V). o.said) whole, subst (λ (o : Outcome V). Holds m o.stored) whole was.1.0)
+
+  -- the same of entries one by one, by their places
+  module _ (start m next : KeyMap V) (es : List (Entry V)) (i : ℕ) where
+    pub filled_none : FilledTo start start es 0
+    filled_none = left_none start m next es
+
+    pub filled_more : FilledTo start m es i → (e : Entry V) → drop i es ≡ e ∷ drop (i + 1) es → length m.nodes.now ≡ length start.nodes.now → Fills m next (Ok tt) (e ∷ []) → FilledTo start next es (i + 1)
+    filled_more so e here supplied = left_more start m next es (drop i es) (e ∷ []) (drop (i + 1) es) so here supplied
+
+    pub filled_stops : FilledTo start m es i → (e : Entry V) → drop i es ≡ e ∷ drop (i + 1) es → length m.nodes.now ≡ length start.nodes.now → (fault : MapFault) → Fills m next (Err fault) (e ∷ []) → Fills start next (Err fault) es
+    filled_stops so e here supplied = left_stops start m next es (drop i es) (e ∷ []) (drop (i + 1) es) so here supplied
+
+    pub filled_all : FilledTo start m es i → drop i es ≡ [] → Fills start m (Ok tt) es
+    filled_all so done = left_all start m next es (drop i es) so done
 
 -- the same of maps on the same nodes
 module _ {V : Type 0} {start m : KeyMap V} {es left : List (Entry V)} (so : PutsLeft start m left es) where

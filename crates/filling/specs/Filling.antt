@@ -1,5 +1,5 @@
 -- What a filling answers and stores: entries put in their order, up to the first refusal. Assumes nothing.
-use Rattle.std.specs.Prelude.{◌≡◌, ℕ, ◌+◌, ◌≤◌, min, Bool, true, not, ◌&&◌, List, [], ◌∷◌, length, is_some, Some, None, Ok, Err, Option, Result, nat_le}
+use Rattle.std.specs.Prelude.{◌≡◌, ℕ, ◌+◌, ◌≤◌, min, Bool, true, not, ◌&&◌, List, [], ◌∷◌, length, drop, is_some, Some, None, Ok, Err, Option, Result, nat_le}
 use Rattle.keymap.specs.declared.found.MapFault.{MapFault}
 use Rattle.keymap.specs.declared.node.KeyMap.{KeyMap}
 use Rattle.keymap.specs.Holding.{Holds}
@@ -45,6 +45,13 @@ once (e ∷ es) = not (is_some (value_of es e.key)) && once es
 abbrev pub Fills : {V : Type 0} → KeyMap V → KeyMap V → Result (Unit {0}) MapFault → List (Entry V) → Type 0
 Fills {V} m after r es =
     (s : Stored V) → Holds m s → (r ≡ (filled (length m.nodes.now) s es).said) × Holds after (filled (length m.nodes.now) s es).stored
+
+-- the entries from the i-th on give, from what the map holds now, what all of them give from what it held at the start
+abbrev pub FilledTo : {V : Type 0} → KeyMap V → KeyMap V → List (Entry V) → ℕ → Type 0
+FilledTo {V} start m es i =
+    (s : Stored V)
+    → Holds start s
+    → (cur : Stored V) × (Holds m cur × (filled (length start.nodes.now) cur (drop i es) ≡ filled (length start.nodes.now) s es))
 
 -- the entries that are left give, from what the map holds now, what all of them give from what it held at the start
 abbrev pub FillsLeft : {V : Type 0} → KeyMap V → KeyMap V → List (Entry V) → List (Entry V) → Type 0

@@ -5,7 +5,7 @@ use Rattle.std.proofs.lemmas.List.{get_or-set_same, get_or-set_other, length-set
 use Rattle.std.proofs.lemmas.Bool.{cases_eq, cases_lt}
 use Rattle.keymap.specs.declared.node.Node.{Node}
 use Rattle.keymap.specs.Growth.{Kept, Grew, with_value}
-use Rattle.keymap.specs.Tree.{blank, lab, val, kid, nxt, Well, At, Has, Live, LiveBut}
+use Rattle.keymap.specs.Tree.{blank, lab, val, kid, nxt, Well, At, Has, Live, LiveBut, Deepest}
 use Rattle.keymap.proofs.Ways.{at_in}
 use Rattle.keymap.proofs.Links.{Tree}
 use Rattle.keymap.proofs.Entries.{none_is_not_some}
@@ -156,6 +156,9 @@ module _ {V : Type 0} (xs ys : List (Node V)) (l : 0 < length xs) (e : ys ≡ se
         beside = λ i j p q. absurd (omega arith);
         apart = λ i j p q. absurd (omega arith);
       }
+
+  pub root_deepest : (up : ℕ → ℕ) (key : List ℕ) → Deepest up ys 1 key 0 0
+  root_deepest up key = record { short = omega arith; way = (refl, omega arith); ends = λ _ j p q. absurd (omega arith) }
 
   pub from_root : (up : ℕ → ℕ) (key : List ℕ) (zs : List (Node V)) (n at d : ℕ) → Grew (λ i. 0) ys 1 0 zs n key at d → Grew up xs 0 0 zs n key at d
   from_root up key zs n at d m =

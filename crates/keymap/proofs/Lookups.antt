@@ -136,6 +136,9 @@ module _ {V : Type 0} (up : ℕ → ℕ) (xs : List (Node V)) (u : ℕ) (w : Wel
         pub longest_at : Longest (Has up xs u) r b.len b.value
         longest_at = longest b some
 
+        len_in : b.len ≤ d
+        len_in = some.0
+
         pub is_longer : (b.len < d) ⊎ ((length r ≤ d) × (0 < kid xs at)) → Longer (Has up xs u) r b.len
         is_longer s =
             let le : b.len ≤ d = some.0 in

@@ -15,6 +15,12 @@ pub room_of : {V : Type 0} {xs : List (Node V)} {u : ℕ} → ∥ Sound xs u ∥
 room_of s = ∥∥₁_elim s le_prop (λ t. t.1.room)
 
 module _ {V : Type 0} (up : ℕ → ℕ) (xs : List (Node V)) (u : ℕ) (w : Well up xs u) where
+  start : (at b : ℕ) → at < u → Walked up xs u at b 0 (kid xs at)
+  start at b lt = record { here_in = λ h. w.down at lt h; before_none = λ _. refl; before_in = λ h. absurd (omega arith) }
+
+  pub start_read : (at b : ℕ) (n : Node V) → at < u → n ≡ get_or xs at blank → Walked up xs u at b 0 n.child
+  start_read at b n lt e = subst (λ (m : Node V). Walked up xs u at b 0 m.child) (sym e) (start at b lt)
+
   pub inside : (at b before here : ℕ) → Walked up xs u at b before here → 0 < here → here < u
   inside at b before here k h = (k.here_in h).0
 

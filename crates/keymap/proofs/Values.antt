@@ -1,5 +1,5 @@
 -- The last value on the way of a key. Assumes nothing.
-use Rattle.std.proofs.Common.{◌≡◌, ℕ, ◌+◌, List, [], ◌∷◌, reverse, get_or, take, Some, None, Option, sym, ap, ◌∙◌, subst, ⊎_elim, arith}
+use Rattle.std.proofs.Common.{◌≡◌, ℕ, ◌+◌, ◌<◌, List, [], ◌∷◌, reverse, get_or, take, Some, None, Option, sym, refl, ap, ◌∙◌, subst, ⊎_elim, arith}
 use Rattle.std.proofs.lemmas.Bool.{cases_lt}
 use Rattle.keymap.specs.declared.node.Node.{Node}
 use Rattle.keymap.specs.declared.trace.Best.{Best}
@@ -10,6 +10,15 @@ module _ {V : Type 0} (up : ℕ → ℕ) (xs : List (Node V)) (u : ℕ) (w : Wel
   pub unique : (k : List ℕ) (i j : ℕ) → At up xs u k i → At up xs u k j → i ≡ j
   unique [] i j a c = a.0 ∙ sym c.0
   unique (b ∷ k) i j a c = w.apart i j a.0 a.1 c.0 c.1 (unique k (up i) (up j) a.3 c.3) (a.2 ∙ sym c.2)
+
+  start_at : (key : List ℕ) (o : Option V) → 0 < u → val xs 0 ≡ o → LastValue up xs u key 0 (picked None o 0)
+  start_at key None p e =
+      λ x j le a. let z : x ≡ 0 = omega arith in
+      ap (λ (i : ℕ). val xs i) (subst (λ (y : ℕ). At up xs u (reverse (take y key)) j) z a).0 ∙ e
+  start_at key (Some v) p e = (omega arith, (0, (refl, p), e), λ x j lt le a. absurd (omega arith))
+
+  pub best_start : (key : List ℕ) (n : Node V) → 0 < u → n ≡ get_or xs 0 blank → LastValue up xs u key 0 (picked None n.value 0)
+  best_start key n p e = start_at key n.value p (ap (λ (m : Node V). m.value) (sym e))
 
   keep : (key : List ℕ) (d c : ℕ) (o : Option (Best V)) → At up xs u (reverse (take (d + 1) key)) c → val xs c ≡ None → LastValue up xs u key d o → LastValue up xs u key (d + 1) o
   keep key d c None a e f =

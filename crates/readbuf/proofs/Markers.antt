@@ -1,7 +1,7 @@
 -- The search for the marker, byte by byte, and from where it may be resumed. Assumes nothing.
-use Rattle.std.proofs.Common.{◌≡◌, ℕ, zero, suc, ◌+◌, ◌-◌, ◌<◌, ◌≤◌, min, Bool, true, false, cond, ◌⊎◌, List, [], ◌∷◌, length, take, drop, Some, None, Decides, Option, sym, refl, ap, ◌∙◌, inl, inr, arith, nat_le, subst}
+use Rattle.std.proofs.Common.{◌≡◌, ℕ, zero, suc, ◌+◌, ◌-◌, ◌<◌, ◌≤◌, min, Bool, true, false, cond, ◌⊎◌, List, [], ◌∷◌, length, get_or, take, drop, Some, None, Decides, Option, sym, refl, ap, ◌∙◌, inl, inr, arith, nat_le, subst}
 use Rattle.std.proofs.lemmas.Slice.Eq.{bytes_eq-Decides}
-use Rattle.std.proofs.lemmas.List.{drop_all, length-take, take-take, take_rest}
+use Rattle.std.proofs.lemmas.List.{drop_more, drop_all, length-take, take-take, take_rest}
 use Rattle.std.proofs.lemmas.Bool.{cases_lt}
 use Rattle.std.proofs.lemmas.Bool.Decides.{nat_tests, same_from_decides}
 use Rattle.std.specs.Str.{bytes_eq}
@@ -32,6 +32,20 @@ none_later n (Some i) e = absurd (let z : ◌≡◌ {A = ℕ} 0 1 = cc in omega 
 by_test : (b : ℕ) (text : List ℕ) (t : Bool) → begins marker (b ∷ text) ≡ t → first_marker (b ∷ text) ≡ cond t (Some 0) (later 1 (first_marker text))
 unfolding first_marker
 by_test b text t e = ap (λ (v : Bool). cond v (Some 0) (later 1 (first_marker text))) e
+
+module _ (text : List ℕ) (i : ℕ) (lt : i < length text) where
+  pub marker_here : begins marker (drop i text) ≡ true → later i (first_marker (drop i text)) ≡ Some i
+  marker_here e =
+      let d = drop_more text i 0 lt in
+      let z : i + 0 ≡ i = omega arith in
+      ap (λ (l : List ℕ). later i (first_marker l)) d
+      ∙ (ap (later i) (by_test (get_or text i 0) (drop (i + 1) text) true (ap (begins marker) (sym d) ∙ e)) ∙ ap (λ (n : ℕ). Some n) z)
+
+  pub marker_more : begins marker (drop i text) ≡ false → later i (first_marker (drop i text)) ≡ later (i + 1) (first_marker (drop (i + 1) text))
+  marker_more e =
+      let d = drop_more text i 0 lt in
+      ap (λ (l : List ℕ). later i (first_marker l)) d
+      ∙ (ap (later i) (by_test (get_or text i 0) (drop (i + 1) text) false (ap (begins marker) (sym d) ∙ e)) ∙ later_later i 1 (first_marker (drop (i + 1) text)))
 
 pub marker_all : (text : List ℕ) (i : ℕ) → length text ≤ i → later i (first_marker (drop i text)) ≡ None
 unfolding first_marker
