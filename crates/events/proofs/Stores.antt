@@ -1,7 +1,7 @@
 -- Records, the texts behind them, and one record more. Assumes nothing.
 use Rattle.std.proofs.Common.{◌≡◌, ℕ, suc, ◌+◌, ◌<◌, ◌≤◌, ◌⊎◌, inl, inr, Bool, true, false, cond, ◌&&◌, ltb, leb, List, [], ◌∷◌, ◌++◌, map, length, get_or, take, drop, Some, None, Option, sym, refl, ap, ◌∙◌, arith, length-drop, length-append}
 use Rattle.std.proofs.Math.ListN.{length-map}
-use Rattle.std.proofs.lemmas.List.{drop-append-le, drop_at, get_or-map, get_or_append_left, get_or_push, length-take-le, map_push, take-append-le, take_all}
+use Rattle.std.proofs.lemmas.List.{drop-take, drop_at, get_or-map, get_or_append_left, get_or_push, length-take-le, map_push, take-append-le, take-take, take_all}
 use Rattle.std.proofs.lemmas.Option.{slice_get-get_or}
 use Rattle.std.proofs.lemmas.Bool.{cases_lt, lt-ltb, le-ltb, le-leb, lt-leb}
 use Rattle.std.specs.List.{slice_get}
@@ -21,21 +21,26 @@ and_false false = refl
 abbrev pub EndBy : ℕ → List Record → Type 0
 EndBy most rs = (i : ℕ) → i < length rs → end_of (get_or rs i none) ≤ most
 
-module _ (text more : List ℕ) where
-  -- bytes behind the texts change none of them
-  part_kept : (start n : ℕ) → start + n ≤ length text → take n (drop start (text ++ more)) ≡ take n (drop start text)
+module _ (text after : List ℕ) (used : ℕ) (same : take used after ≡ take used text) where
+  -- bytes before the end stay
+  part_kept : (start n : ℕ) → start + n ≤ used → take n (drop start after) ≡ take n (drop start text)
   part_kept start n h =
-      ap (take n) (drop-append-le start text more (omega arith))
-      ∙ take-append-le n (drop start text) more (omega (arith, length-drop start text))
+      sym (drop-take start n after)
+      ∙ (ap (drop start) (sym (take-take (start + n) used after h) ∙ (ap (take (start + n)) same ∙ take-take (start + n) used text h))
+      ∙ drop-take start n text)
 
-  told_kept : (r : Record) → end_of r ≤ length text → told_of (text ++ more) r ≡ told_of text r
+  told_kept : (r : Record) → end_of r ≤ used → told_of after r ≡ told_of text r
   told_kept (Key e) h = refl
   told_kept (Paste start n) h = ap paste (part_kept start n h)
   told_kept (Report r) h = refl
 
-  tolds_kept : (rs : List Record) → EndBy (length text) rs → map (told_of (text ++ more)) rs ≡ map (told_of text) rs
+  pub tolds_kept : (rs : List Record) → EndBy used rs → map (told_of after) rs ≡ map (told_of text) rs
   tolds_kept [] h = refl
   tolds_kept (r ∷ rs) h = let e = told_kept r (h 0 (omega arith)) in let f = tolds_kept rs (λ i l. h (suc i) (omega arith)) in cc
+
+-- bytes behind the texts change none of them
+tolds_behind : (text more : List ℕ) (rs : List Record) → EndBy (length text) rs → map (told_of (text ++ more)) rs ≡ map (told_of text) rs
+tolds_behind text more rs h = tolds_kept text (text ++ more) (length text) (take-append-le (length text) text more (omega arith)) rs h
 
 module _ (text : List ℕ) where
   size_told : (r : Record) → end_of r ≤ length text → length (text_of (told_of text r)) ≡ size_of r
@@ -44,14 +49,14 @@ module _ (text : List ℕ) where
   size_told (Report r) h = refl
 
   -- the texts of the events have the bytes of the records
-  sizes_told : (rs : List Record) → EndBy (length text) rs → text_bytes (map (told_of text) rs) ≡ total rs
+  pub sizes_told : (rs : List Record) → EndBy (length text) rs → text_bytes (map (told_of text) rs) ≡ total rs
   sizes_told [] h = refl
   sizes_told (r ∷ rs) h =
       omega (arith, size_told r (h 0 (omega arith)), sizes_told rs (λ i l. h (suc i) (omega arith)))
 
 module _ (start : ℕ) where
   -- an event is that of its record, where its text stands at the place
-  told_at : (e : Told) (text : List ℕ) → take (length (text_of e)) (drop start text) ≡ text_of e → told_of text (record_at start e) ≡ e
+  pub told_at : (e : Told) (text : List ℕ) → take (length (text_of e)) (drop start text) ≡ text_of e → told_of text (record_at start e) ≡ e
   told_at (key e) text h = refl
   told_at (paste t) text h = ap paste h
   told_at (report r) text h = refl
@@ -66,7 +71,7 @@ module _ (start : ℕ) where
   end_at (paste t) = omega arith
   end_at (report r) = omega arith
 
-total_push : (rs : List Record) (r : Record) → total (rs ++ (r ∷ [])) ≡ total rs + size_of r
+pub total_push : (rs : List Record) (r : Record) → total (rs ++ (r ∷ [])) ≡ total rs + size_of r
 total_push [] r = omega arith
 total_push (x ∷ rs) r = omega (arith, total_push rs r)
 
@@ -80,7 +85,7 @@ module _ {R T : ℕ} (q : Queue R T) where
   abbrev texts : List ℕ
   texts = q.texts.items
 
-  count_is : length events ≡ length rs
+  pub count_is : length (held_by q).taken ≡ length rs
   count_is = length-map rs (told_of texts)
 
   pub event_at : (i : ℕ) → i < length rs → slice_get (held_by q).taken i ≡ Some (told_of texts (get_or rs i none))
@@ -136,7 +141,7 @@ module _ {R T : ℕ} (q : Queue R T) where
     pushed =
         ap (map (told_of texts')) one
         ∙ (map_push (told_of texts') rs r
-        ∙ (ap (λ (es : List Told). es ++ (told_of texts' r ∷ [])) (ap (λ (l : List ℕ). map (told_of l) rs) more ∙ tolds_kept texts (text_of e) rs q.within)
+        ∙ (ap (λ (es : List Told). es ++ (told_of texts' r ∷ [])) (ap (λ (l : List ℕ). map (told_of l) rs) more ∙ tolds_behind texts (text_of e) rs q.within)
         ∙ ap (λ (x : Told). events ++ (x ∷ [])) (ap (told_of texts') is ∙ told_at (length texts) e texts' here)))
 
     -- the queue takes it
