@@ -1,7 +1,8 @@
 -- The search for the marker, byte by byte, and from where it may be resumed. Assumes nothing.
 use Rattle.std.proofs.Common.{◌≡◌, ℕ, zero, suc, ◌+◌, ◌-◌, ◌<◌, ◌≤◌, min, Bool, true, false, cond, ◌⊎◌, List, [], ◌∷◌, length, get_or, take, drop, Some, None, Decides, Option, sym, refl, ap, ◌∙◌, inl, inr, arith, nat_le, subst}
 use Rattle.std.proofs.lemmas.Slice.Eq.{bytes_eq-Decides}
-use Rattle.std.proofs.lemmas.List.{drop_more, drop_all, length-take, take-take, take_rest}
+use Rattle.std.proofs.lemmas.List.{drop_more, drop_all, drop-drop, length-drop, length-take, take-take, take_rest}
+use Rattle.std.proofs.lemmas.Slice.{between_is}
 use Rattle.std.proofs.lemmas.Bool.{cases_lt}
 use Rattle.std.proofs.lemmas.Bool.Decides.{nat_tests, same_from_decides}
 use Rattle.std.specs.Str.{bytes_eq}
@@ -109,10 +110,18 @@ capped k text = by (cases_lt (length text) k)
     by (inr h) = let z : min k (length text) ≡ k = omega arith in ap (λ (n : ℕ). later n (first_marker (drop n text))) z
 
 -- a search of the held bytes from six before the searched ones end
-pub resumed_part : (s from : ℕ) (part held : List ℕ) (o : Option ℕ) → part ≡ held → from ≡ min (s - 6) (length held) → o ≡ first_marker (take (length part - from) (drop from part)) → later from o ≡ resumed s held
-resumed_part s from part held o same n e =
+pub resumed_held : (s from : ℕ) (part held : List ℕ) (o : Option ℕ) → part ≡ held → from ≡ min (s - 6) (length held) → o ≡ first_marker (take (length part - from) (drop from part)) → later from o ≡ resumed s held
+resumed_held s from part held o same n e =
     ap (later from) (e ∙ ap first_marker (take_rest part from ∙ ap (drop from) same))
     ∙ (ap (λ (i : ℕ). later i (first_marker (drop i held))) n ∙ capped (s - 6) held)
+
+-- a search of the held bytes, from a part of the array
+pub resumed_part : (s start end from : ℕ) (bytes : List ℕ) (o : Option ℕ) → start ≤ end → end ≤ length bytes → from ≡ min (s - 6) (end - start) → o ≡ first_marker (take (end - (start + from)) (drop (start + from) bytes)) → later from o ≡ resumed s (drop start (take end bytes))
+resumed_part s start end from bytes o h k f e =
+    let held = drop start (take end bytes) in
+    let part : take (end - (start + from)) (drop (start + from) bytes) ≡ drop from held = between_is bytes (start + from) end ∙ sym (drop-drop from start (take end bytes)) in
+    let n : from ≡ min (s - 6) (length held) = simp (length-drop, length-take) (omega arith) in
+    resumed_held s from held held o refl n (e ∙ ap first_marker (part ∙ sym (take_rest held from)))
 
 -- ---- the parts of six bytes, in order
 
