@@ -1,6 +1,6 @@
 -- Lossy text, one character at a time. Assumes nothing.
 use Rattle.std.proofs.Common.{◌≡◌, true, false, ◌==◌, ℕ, zero, suc, ◌+◌, ◌-◌, ◌*◌, ◌<◌, ◌≤◌, List, [], ◌∷◌, ◌++◌, length, take, drop, sym, refl, ap, ◌∙◌, arith, length-append}
-use Rattle.std.proofs.lemmas.List.{append_assoc, append-nil, drop_at, drop-drop, length-drop, length-take-le, take-append-drop, take_at}
+use Rattle.std.proofs.lemmas.List.{append_assoc, append-nil, drop_all, drop_at, drop-drop, length-drop, length-take-le, take-append-drop, take_at}
 use Rattle.std.proofs.lemmas.Bool.Decides.{nat_tests}
 use Rattle.text.specs.declared.kinds.Character.{Character}
 use Rattle.text.specs.declared.kinds.Character.TheVariants.{Scalar, IllFormed, Partial, Empty}
@@ -81,10 +81,14 @@ step text written rest some w e =
       shorter = omega (arith, ap length e, length-drop (taken (character_of text) text) text, g.some, g.within);
     }
 
-pub lossy_none : (text : List ℕ) → true ≡ (length text == 0) → lossy_of text ≡ []
+pub lossy_none : (text : List ℕ) (at : ℕ) → length text ≤ at → lossy_of (drop at text) ≡ []
 unfolding lossy_behind
-lossy_none [] e = refl
-lossy_none (b ∷ bytes) e = absurd (grind (arith, nat_tests))
+lossy_none text at h = ap lossy_of (drop_all at text h)
+
+pub lossy_of_nothing : (text : List ℕ) → true ≡ (length text == 0) → lossy_of text ≡ []
+unfolding lossy_behind
+lossy_of_nothing [] e = refl
+lossy_of_nothing (b ∷ bytes) e = absurd (grind (arith, nat_tests))
 
 -- the output: what was written of the whole is in front, and behind it the output is as it was
 module _ (whole before : List ℕ) where

@@ -1,6 +1,6 @@
 use Rattle.std.proofs.Common.{length, ap, arith}
 use Rattle.std.proofs.lemmas.Bool.Decides.{nat_tests}
-use Rattle.text.proofs.Lossies.{step, lossy_none}
+use Rattle.text.proofs.Lossies.{step, lossy_of_nothing}
 use Rattle.text.proofs.replace.lossy_len.Goals as goal
 
 pub returns-then-shown-most : goal.returns-then-shown-most
@@ -22,5 +22,5 @@ loop-shown-preserved c =
 
 pub returns : goal.returns
 returns c =
-    let e = ap length (lossy_none c.loop-shown.rest.now c.in_default.ensures.none) in
+    let e = ap length (lossy_of_nothing c.loop-shown.rest.now c.in_default.ensures.none) in
     grind (arith, nat_tests, e)

@@ -1,6 +1,6 @@
 use Rattle.std.proofs.Common.{List, ℕ, subst, arith}
 use Rattle.text.specs.Lossy.{lossy_of}
-use Rattle.text.proofs.Lossies.{Written, step, lossy_none, written_room, written_more, written_all}
+use Rattle.text.proofs.Lossies.{Written, step, lossy_of_nothing, written_room, written_more, written_all}
 use Rattle.text.proofs.replace.write_lossy.Goals as goal
 
 pub write_part-requires : goal.write_part-requires
@@ -23,4 +23,4 @@ loop-shown-preserved c =
 pub returns : goal.returns
 returns c =
     let P : List ℕ → Type 0 = λ rest. Written (lossy_of c.args.text.now) c.args.out.now rest c.loop-shown.out c.loop-shown.len in
-    written_all _ _ _ _ (subst P (lossy_none c.loop-shown.rest.now c.in_default.ensures.none) c.loop-shown.invariant)
+    written_all _ _ _ _ (subst P (lossy_of_nothing c.loop-shown.rest.now c.in_default.ensures.none) c.loop-shown.invariant)
