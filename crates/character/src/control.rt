@@ -27,6 +27,7 @@ pub(crate) fn ctrl_code(c: u32) -> Option<u8>
     ctrl_mapping(char::from_u32(c)?)
 }
 
+// These go by numbers and not by `char`s: the number of a `CodePoint` may be none.
 pub(crate) fn is_lower(c: u32) -> bool
     ensures { result ≡ lower c }
 {

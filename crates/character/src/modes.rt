@@ -6,7 +6,8 @@ use crate::control::{is_ambiguous_ascii_ctrl, is_upper, is_well_known};
 use crate::level::{Level, Route};
 use keycode::{KeyCodeEncodeModes, KeyboardEncoding};
 
-// The level of modifyOtherKeys: 0 counts as absent. No `From`: not every number is a level, and this name says what is read.
+// The level of modifyOtherKeys: 0 counts as absent. No `From`: an `Option<i64>` may be
+// many things, and this name says which.
 pub fn level_of(value: Option<i64>) -> Level
     ensures { result ≡ level_of value }
 {

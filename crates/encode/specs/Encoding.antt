@@ -1,5 +1,5 @@
 -- The answer of an encoding and the output after it. Assumes nothing.
-use Rattle.std.specs.Prelude.{ℕ, Bool, true, false, cond, ◌||◌, List, ◌++◌, length, drop, Some, None, Ok, Err, Option, Result, ◌==◌, nat_le, nat_lt}
+use Rattle.std.specs.Prelude.{◌≡◌, MatchResult, ℕ, Bool, true, false, cond, ◌||◌, List, ◌++◌, length, drop, Some, None, Ok, Err, Option, Result, ◌==◌, nat_le, nat_lt}
 use Rattle.keycode.specs.declared.key.KeyCode.{KeyCode}
 use Rattle.keycode.specs.declared.modes.KeyCodeEncodeModes.{KeyCodeEncodeModes}
 use Rattle.encode.specs.declared.form.Form.{Form}
@@ -30,6 +30,10 @@ form_fault KeyEnter = None
 form_fault KeyEscape = None
 form_fault KeyTab = None
 form_fault Silent = None
+
+-- a form that was read, or what is wrong with the key's own number
+abbrev pub Reads : Form → Result Form EncodeFault → Type 0
+Reads form r = MatchResult r (λ f. (f ≡ form) × (form_fault f ≡ None)) (λ fault. form_fault form ≡ Some fault)
 
 -- the first cause of a refusal that the press itself gives: the modifiers, then the key's number
 abbrev pub press_fault : Form → ℕ → Option EncodeFault

@@ -1,7 +1,6 @@
 // Which key is sent in which form.
-ghost use Rattle.std.specs.Prelude.{◌≡◌, MatchResult, Some, None};
 ghost use Rattle.encode.specs.Forms.{form_of, char_form};
-ghost use Rattle.encode.specs.Encoding.{form_fault};
+ghost use Rattle.encode.specs.Encoding.{Reads};
 ghost use Rattle.encode.specs.declared.form.Form.TheVariants.{Numbered};
 
 use crate::form::{EncodeFault, Form};
@@ -9,7 +8,7 @@ use keycode::KeyCode;
 
 // The form of a key, or what is wrong with its own number.
 pub(crate) fn form_of(key: KeyCode) -> Result<Form, EncodeFault>
-    ensures { MatchResult result (λ form. (form ≡ form_of key) × (form_fault form ≡ None)) (λ fault. form_fault (form_of key) ≡ Some fault) }
+    ensures { Reads (form_of key) result }
 {
     match key {
         KeyCode::Char(c) => char_form(c),
@@ -49,7 +48,7 @@ pub(crate) fn form_of(key: KeyCode) -> Result<Form, EncodeFault>
 
 // The form of a character. DEL and BS as characters are the keys that send them.
 fn char_form(c: u32) -> Result<Form, EncodeFault>
-    ensures { MatchResult result (λ form. (form ≡ char_form c) × (form_fault form ≡ None)) (λ fault. form_fault (char_form c) ≡ Some fault) }
+    ensures { Reads (char_form c) result }
 {
     match char::from_u32(c).ok_or(EncodeFault::NoScalar)? {
         '\x7f' => Ok(Form::Edit(3)),
@@ -60,7 +59,7 @@ fn char_form(c: u32) -> Result<Form, EncodeFault>
 
 // The form of a function key.
 fn function_form(n: u8) -> Result<Form, EncodeFault>
-    ensures { MatchResult result (λ form. (form ≡ Numbered n) × (form_fault form ≡ None)) (λ fault. form_fault (Numbered n) ≡ Some fault) }
+    ensures { Reads (Numbered n) result }
 {
     match n {
         1..=24 => Ok(Form::Numbered(n)),

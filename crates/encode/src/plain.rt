@@ -16,7 +16,7 @@ fn is_plain_alone(c: u32) -> bool
 fn is_plain_under_alt(c: u32) -> bool
     ensures { result ≡ plain_alt c }
 {
-    0x20 <= c && c <= 0x7e && c != 0x5b && c != 0x4f
+    (0x20..=0x7e).contains(&c) && c != 0x5b && c != 0x4f
 }
 
 fn is_plain_under_ctrl(c: u32) -> bool
@@ -60,7 +60,7 @@ pub fn is_plain(event: KeyEvent) -> bool
     let mods = event.modifiers.0;
     match plainness(event.key) {
         Plainness::Character(c) => is_plain_char(c, mods),
-        Plainness::Key(n) => 1 <= n && n <= 20 && mods < 8,
+        Plainness::Key(n) => (1..=20).contains(&n) && mods < 8,
         Plainness::Everywhere => mods < 8,
         Plainness::Shifted => mods < 2,
         Plainness::Alone => mods == 0,
@@ -68,7 +68,8 @@ pub fn is_plain(event: KeyEvent) -> bool
     }
 }
 
-// The bytes of a press in the modes that a terminal starts in: what `encode` gives for the key down.
+// The bytes of a press in the modes that a terminal starts in: what `encode` gives for the key down. It says the clauses of
+// `encode` again, as each call says its own.
 pub fn encode_plain(event: KeyEvent, out: &mut [u8]) -> Result<usize, EncodeFault>
     ensures after { sent result out.new ≡ encoding event.key event.modifiers.0 plain_modes true out.old }
     ensures count { IfOk result (λ n. (n ≤ 15) × (n ≤ length out.old)) }

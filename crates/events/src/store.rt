@@ -64,7 +64,7 @@ impl<const R: usize, const T: usize> Sink for Queue<R, T> {
             return false;
         }
         let start = self.texts.len();
-        // The text fits, as was tested.
+        // The text fits, as was tested. A try in the condition above leaves open that the queue is as it was where it is refused.
         let _ = self.texts.try_extend_from_slice(text);
         self.records.push(record_of(event, start));
         true

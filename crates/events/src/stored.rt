@@ -2,7 +2,8 @@
 use crate::event::Report;
 use keycode::KeyEvent;
 
-// A pasted text by its place among the queue's bytes and its length.
+// A pasted text by its place among the queue's bytes and its length: a queue has no heap, and cannot lend a part of itself to
+// itself.
 #[derive(Clone, Copy, PartialEq, Eq, Debug)]
 pub enum Record {
     Paste(usize, usize),
@@ -10,7 +11,7 @@ pub enum Record {
     Report(Report),
 }
 
-// What stands where no event is held.
+// What stands where no event is held; written out, since a derived default needs a variant without fields.
 impl Default for Record {
     fn default() -> Self {
         Record::Paste(0, 0)

@@ -6,7 +6,8 @@ ghost use Rattle.filling.specs.Filling.{Fills};
 
 use keymap::{KeyMap, MapFault};
 
-// One key: the shortest filling.
+// One key: the shortest filling. Its three clauses stand at each public filling, as promises of the call; inner ones say them at
+// once, by `Puts`.
 pub fn put<V: Copy>(map: &mut KeyMap<V>, key: &[u8], value: V) -> Result<(), MapFault>
     ensures lender { map.new.nodes.ghost_name ≡ map.old.nodes.ghost_name }
     ensures supplied { length map.new.nodes.now ≡ length map.old.nodes.now }

@@ -37,7 +37,7 @@ fn main(rt: HostRuntime) -> io::Result<()> {
     }
 }
 
-// Says that the words do not fit their nodes. `keytable` has the same with words of its own.
+// Says that the words do not fit their nodes. `keytable` has its own: the programs share no crate that prints.
 fn refused(rt: &HostRuntime, fault: MapFault) -> io::Result<()> {
     let number = fault.number();
     eprintln!(rt; "keyline: the words do not fit their nodes: refused {number}")

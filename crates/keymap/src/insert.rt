@@ -36,7 +36,7 @@ fn insert_first<V: Copy>(nodes: &mut [Node<V>], key: &[u8], value: V) -> Result<
     Ok(n)
 }
 
-// Stores a value where something is stored.
+// Stores a value where something is stored. Like `grow`, it takes the nodes: while it runs they are no map.
 fn insert_more<V: Copy>(
     nodes: &mut [Node<V>],
     used: usize,

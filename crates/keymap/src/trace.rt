@@ -1,6 +1,7 @@
 // Where a walk over the nodes stands.
 
-// The neighbours between which a label belongs: the last sibling with a lower label, and the next one; 0 for none.
+// The neighbours between which a label belongs: the last sibling with a lower label, and the next one; 0 for none, as
+// in the links of nodes that it goes into.
 #[derive(Clone, Copy)]
 pub struct Place {
     pub(crate) before: usize,

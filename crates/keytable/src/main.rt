@@ -6,14 +6,11 @@ mod totals;
 
 use basic::build_basic_key_map;
 use keycode::KeyEvent;
-use keymap::{KeyMap, MapFault, Node};
+use keymap::{KeyMap, MAX_NODES, MapFault, Node};
 use row::{print_replaced, print_rule};
 use std::io;
 use table::RULES;
 use totals::Totals;
-
-// As many nodes as a map can use.
-const NODES: usize = 8192;
 
 fn print_table(rt: &HostRuntime, map: &KeyMap<KeyEvent>) -> io::Result<()> {
     let mut totals = Totals::default();
@@ -28,7 +25,7 @@ fn print_table(rt: &HostRuntime, map: &KeyMap<KeyEvent>) -> io::Result<()> {
 }
 
 fn main(rt: HostRuntime) -> io::Result<()> {
-    let mut nodes = [Node::empty(); NODES];
+    let mut nodes = [Node::empty(); MAX_NODES];
     let mut map = KeyMap::new(&mut nodes);
     match build_basic_key_map(&mut map) {
         Ok(()) => print_table(&rt, &map),
@@ -36,7 +33,7 @@ fn main(rt: HostRuntime) -> io::Result<()> {
     }
 }
 
-// Says that the table does not fit its nodes. `keyline` has the same with words of its own.
+// Says that the table does not fit its nodes. `keyline` has its own: the programs share no crate that prints.
 fn refused(rt: &HostRuntime, fault: MapFault) -> io::Result<()> {
     let number = fault.number();
     eprintln!(rt; "keytable: the table does not fit its nodes: refused {number}")

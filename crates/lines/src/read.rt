@@ -53,7 +53,7 @@ fn press(keys: &KeyMap<KeyCode>, fields: &[u8]) -> Option<KeyEvent>
     })
 }
 
-// The request of a line of any length.
+// The request of a line of any length. The clauses name each map: a definition of both would hide which of them a word is in.
 fn form(script: &Script, line: &[u8]) -> Option<Request>
     ensures { (v : Stored Verb) (k : Stored KeyCode) → Holds script.now.verbs.now v → Holds script.now.keys.now k → result ≡ form_of (value_of v) (value_of k) (parted line.now) }
 {

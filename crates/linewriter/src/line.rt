@@ -22,7 +22,7 @@ pub const LONGEST: usize = 40;
 // The line of a press or a report.
 pub type Line = ArrayVec<u8, LONGEST>;
 
-// The number that a key holds.
+// The number that a key holds. That it is sized so is a promise to callers, whose definitions have no `u32`.
 pub fn number_of(key: KeyCode) -> Number
     ensures value { result ≡ number_of key }
     ensures room { Sized (number_of key) }

@@ -1,7 +1,7 @@
 // The number that a key holds.
 
-// A character's number, the number on a function key, or none. Three cases and no `Option` of two: a line writes each of them,
-// `-` for none.
+// A character's number, the number on a function key, or none. Three cases and no `Option` of two: the definitions of lines go
+// by them.
 #[derive(Clone, Copy)]
 pub enum Number {
     Character(u32),

@@ -36,7 +36,7 @@ impl LineWriter {
         self.bytes.clear();
     }
 
-    // A whole line, if it fits.
+    // A whole line, if it fits; a `bool`, as `Sink::take` answers.
     fn write(&mut self, line: &[u8]) -> bool
         ensures after { result ≡ true → behind (so_far self.old) line.now ≡ Some (so_far self.new) }
         ensures stays { result ≡ false → (behind (so_far self.old) line.now ≡ None) × (self.new ≡ self.old) }
@@ -44,7 +44,7 @@ impl LineWriter {
         self.bytes.try_extend_from_slice(line).is_ok()
     }
 
-    // The line of a pasted text, if it fits.
+    // The line of a pasted text, if it fits; a `bool` too.
     fn write_paste(&mut self, text: &[u8]) -> bool
         ensures after { result ≡ true → behind (so_far self.old) (line_of (paste_told text.now)) ≡ Some (so_far self.new) }
         ensures stays { result ≡ false → (behind (so_far self.old) (line_of (paste_told text.now)) ≡ None) × (self.new ≡ self.old) }

@@ -47,20 +47,24 @@ impl From<MapFault> for Answer {
     }
 }
 
-pub(crate) fn of_insert(said: Result<(), MapFault>) -> Answer {
-    match said {
-        Ok(_) => plain(Kind::Inserted),
-        Err(fault) => fault.into(),
+impl From<Result<(), MapFault>> for Answer {
+    fn from(said: Result<(), MapFault>) -> Answer {
+        match said {
+            Ok(_) => plain(Kind::Inserted),
+            Err(fault) => fault.into(),
+        }
     }
 }
 
-pub(crate) fn of_lookup(said: Result<Found<u32>, MapFault>) -> Answer {
-    match said {
-        Ok(Found::None) => plain(Kind::None),
-        Ok(Found::Exact(len, value)) => found(Kind::Exact, len, value),
-        Ok(Found::Ambiguous(len, value)) => found(Kind::Ambiguous, len, value),
-        Ok(Found::NeedData) => plain(Kind::NeedData),
-        Err(fault) => fault.into(),
+impl From<Result<Found<u32>, MapFault>> for Answer {
+    fn from(said: Result<Found<u32>, MapFault>) -> Answer {
+        match said {
+            Ok(Found::None) => plain(Kind::None),
+            Ok(Found::Exact(len, value)) => found(Kind::Exact, len, value),
+            Ok(Found::Ambiguous(len, value)) => found(Kind::Ambiguous, len, value),
+            Ok(Found::NeedData) => plain(Kind::NeedData),
+            Err(fault) => fault.into(),
+        }
     }
 }
 

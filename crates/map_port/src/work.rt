@@ -1,7 +1,7 @@
 // The work on one map.
 ghost use Rattle.std.specs.Prelude.{◌≡◌};
 
-use crate::answer::{ANSWER, Answer, of_insert, of_lookup};
+use crate::answer::{ANSWER, Answer};
 use crate::script::{Record, Request, read_record};
 use keymap::{KeyMap, Node};
 
@@ -10,8 +10,8 @@ fn answer_to(map: &mut KeyMap<u32>, request: Request, key: &[u8]) -> Answer
     ensures { map.new.nodes.ghost_name ≡ map.old.nodes.ghost_name }
 {
     match request {
-        Request::Insert(value) => of_insert(map.insert(key, value)),
-        Request::Lookup(maybe_more) => of_lookup(map.lookup(key, maybe_more)),
+        Request::Insert(value) => map.insert(key, value).into(),
+        Request::Lookup(maybe_more) => map.lookup(key, maybe_more).into(),
     }
 }
 

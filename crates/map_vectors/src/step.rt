@@ -15,7 +15,8 @@ pub enum Step {
     Lookup(Bytes, bool),
 }
 
-// The value of an uppercase hexadecimal digit. Not `char::to_digit`, which takes lowercase letters too.
+// The value of an uppercase hexadecimal digit. Not `char::to_digit`, which takes lowercase letters too. `lines` has one for any
+// base, in a crate that this program does not stand on.
 fn digit(b: u8) -> Option<u8>
     ensures { IfSome result (λ d. d < 16) }
 {

@@ -30,7 +30,8 @@ fn fill_rule(map: &mut KeyMap<KeyEvent>, rule: Rule) -> Result<(), MapFault>
     Ok(())
 }
 
-// Puts the table into a map, rule by rule. A refused insert passes up as it came, and the keys before it stay.
+// Puts the table into a map, rule by rule. A refused insert passes up as it came, and the keys before it stay. The clauses are
+// those of each public filling, as promises of the call.
 pub fn fill_table(map: &mut KeyMap<KeyEvent>) -> Result<(), MapFault>
     ensures lender { map.new.nodes.ghost_name ≡ map.old.nodes.ghost_name }
     ensures supplied { length map.new.nodes.now ≡ length map.old.nodes.now }

@@ -78,9 +78,7 @@ pub fn lossy(text: &[u8], out: &mut [u8]) -> Result<usize, TextFault>
     ensures count { IfOk result (λ n. n ≤ length out.old) }
     ensures room { 3 * length text.now ≤ length out.old → is_ok result ≡ true }
 {
-    let Some(len) = lossy_len(text, out.len()) else {
-        return Err(TextFault::OutputTooShort);
-    };
+    let len = lossy_len(text, out.len()).ok_or(TextFault::OutputTooShort)?;
     write_lossy(text, out);
     Ok(len)
 }

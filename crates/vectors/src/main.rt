@@ -32,9 +32,11 @@ fn print_press(rt: &HostRuntime, press: Press) -> io::Result<()> {
 }
 
 fn main(rt: HostRuntime) -> io::Result<()> {
-    let mut number = 0u64;
-    for line in BufReader::new(rt.alloc(), rt.stdin())?.lines(rt.alloc()) {
-        number = number.saturating_add(1);
+    for (i, line) in BufReader::new(rt.alloc(), rt.stdin())?
+        .lines(rt.alloc())
+        .enumerate()
+    {
+        let number = i.saturating_add(1);
         match read_press(line?.as_str()) {
             Some(press) => print_press(&rt, press)?,
             None => println!(rt; "unreadable\t{number}")?,
