@@ -10,8 +10,8 @@ use keycode::KeyEvent;
 use keymap::{KeyMap, MapFault};
 use table::fill_table;
 
-// Puts the built-in table into a map. An empty map with 5,327 nodes takes all of it; with fewer, the insert that lacks
-// nodes is refused, and the keys before it stay. The first three clauses are those of each public filling, as promises of the call.
+// Puts the built-in table into a map. An empty map with 5,327 nodes takes all of it; with fewer, the insert that lacks nodes
+// is refused, and the keys before it stay. The first three clauses are those of each public filling, as promises of the call.
 pub fn build_basic_key_map(map: &mut KeyMap<KeyEvent>) -> Result<(), MapFault>
     ensures lender { map.new.nodes.ghost_name ≡ map.old.nodes.ghost_name }
     ensures supplied { length map.new.nodes.now ≡ length map.old.nodes.now }

@@ -7,7 +7,7 @@ mod totals;
 use basic::build_basic_key_map;
 use keycode::KeyEvent;
 use keymap::{KeyMap, MAX_NODES, MapFault, Node};
-use row::{print_replaced, print_rule};
+use row::{Numbered, print_replaced, print_rule};
 use std::io;
 use table::RULES;
 use totals::Totals;
@@ -15,10 +15,25 @@ use totals::Totals;
 fn print_table(rt: &HostRuntime, map: &KeyMap<KeyEvent>) -> io::Result<()> {
     let mut totals = Totals::default();
     for (i, rule) in RULES.iter().enumerate() {
-        totals = print_rule(rt, map, i as u8, *rule, totals)?;
+        totals = print_rule(
+            rt,
+            map,
+            Numbered {
+                number: i as u8,
+                rule: *rule,
+            },
+            totals,
+        )?;
     }
     for (i, rule) in RULES.iter().enumerate() {
-        print_replaced(rt, map, i as u8, *rule)?;
+        print_replaced(
+            rt,
+            map,
+            Numbered {
+                number: i as u8,
+                rule: *rule,
+            },
+        )?;
     }
     print!(rt; "{totals}")?;
     println!(rt; "nodes\t{}", map.used())

@@ -19,6 +19,24 @@ const WORD: usize = 3;
 // The most bytes of the rule, the place and the key.
 const FIELDS: usize = 32;
 
+// A rule, and its place among the rules, from 0.
+#[derive(Clone, Copy)]
+pub(crate) struct Numbered {
+    pub(crate) number: u8,
+    pub(crate) rule: Rule,
+}
+
+impl Numbered {
+    // The entry at a place of the rule, from 0.
+    fn entry(self, place: usize) -> Option<Entry> {
+        Some(Entry {
+            rule: self.number,
+            place: u16::try_from(place).ok()?,
+            key: entry_at(self.rule, place)?,
+        })
+    }
+}
+
 // An entry: its rule and its place there, from 0, and its key.
 #[derive(Drop)]
 struct Entry {
@@ -28,15 +46,6 @@ struct Entry {
 }
 
 impl Entry {
-    // The entry at a place of a rule, both from 0.
-    fn at(number: u8, rule: Rule, place: usize) -> Option<Entry> {
-        Some(Entry {
-            rule: number,
-            place: u16::try_from(place).ok()?,
-            key: entry_at(rule, place)?,
-        })
-    }
-
     // The rule and the place, from 1, and the key in hexadecimal, with tabs between.
     #[tactic(auto, using(writer::proofs::Digits::dec_most))]
     fn fields(&self) -> ArrayVec<u8, FIELDS>
@@ -70,12 +79,11 @@ impl Entry {
 pub(crate) fn print_rule(
     rt: &HostRuntime,
     map: &KeyMap<KeyEvent>,
-    number: u8,
-    rule: Rule,
+    rule: Numbered,
     totals: Totals,
 ) -> io::Result<Totals> {
     let mut totals = totals;
-    for entry in (0..count(rule)).filter_map(|place| Entry::at(number, rule, place)) {
+    for entry in (0..count(rule.rule)).filter_map(|place| rule.entry(place)) {
         entry.print(rt)?;
         totals = totals.with(entry.key.bytes.len(), entry.is_replaced(map));
     }
@@ -86,10 +94,9 @@ pub(crate) fn print_rule(
 pub(crate) fn print_replaced(
     rt: &HostRuntime,
     map: &KeyMap<KeyEvent>,
-    number: u8,
-    rule: Rule,
+    rule: Numbered,
 ) -> io::Result<()> {
-    for entry in (0..count(rule)).filter_map(|place| Entry::at(number, rule, place)) {
+    for entry in (0..count(rule.rule)).filter_map(|place| rule.entry(place)) {
         if entry.is_replaced(map) {
             let mut out = rt.stdout();
             out.write_all(b"replaced\t")?;

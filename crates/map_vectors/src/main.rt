@@ -8,13 +8,10 @@ mod step;
 
 ghost use Rattle.std.specs.Prelude.{◌≡◌};
 
-use keymap::{Found, KeyMap, MapFault, Node};
+use keymap::{Found, KeyMap, MAX_NODES, MapFault, Node};
 use std::io;
 use std::io::{BufRead, BufReader};
 use step::{Step, read_step};
-
-// The nodes of a map.
-const NODES: usize = 8192;
 
 fn print_refused(rt: &HostRuntime, fault: MapFault) -> io::Result<()> {
     let number = fault.number();
@@ -51,7 +48,7 @@ fn take_step(rt: &HostRuntime, map: &mut KeyMap<u32>, line: &str) -> io::Result<
 
 // Takes the steps of some lines on an empty map.
 fn run_map(rt: &HostRuntime, lines: &[String]) -> io::Result<()> {
-    let mut nodes = [Node::empty(); NODES];
+    let mut nodes = [Node::empty(); MAX_NODES];
     let mut map = KeyMap::new(&mut nodes);
     for line in lines {
         take_step(rt, &mut map, line.as_str())?;

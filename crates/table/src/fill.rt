@@ -19,8 +19,9 @@ fn fill_key(map: &mut KeyMap<KeyEvent>, rule: Rule, place: usize) -> Result<(), 
     put(map, key.bytes.as_slice(), key.event)
 }
 
-// Puts the keys of a rule into a map: by places, since a rule's keys are made by their place. This loop, `fill_table` and `words::fill_keys` stay apart: each is three lines, and a
-// function that they could share needs the body as a closure with a contract as long as theirs.
+// Puts the keys of a rule into a map: by places, since a rule's keys are made by their place. This loop, `fill_table` and
+// `words::fill_keys` stay apart: each is three lines, and a function that they could share needs the body as a closure with a
+// contract as long as theirs.
 fn fill_rule(map: &mut KeyMap<KeyEvent>, rule: Rule) -> Result<(), MapFault>
     ensures { Puts map.old map.new result (entries_of rule) }
 {
