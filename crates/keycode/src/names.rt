@@ -208,7 +208,7 @@ pub fn name_of(key: KeyCode) -> &'static str
     KEYS[place(key)].1
 }
 
-// The key at a place in `KeyCode`, with the number 0 where it holds one.
+// The key at a place in `KeyCode`, with the number 0 where it holds one. By `COUNT`, so that a wrong count of keys is refused.
 pub fn key_at(place: usize) -> Option<KeyCode>
     ensures { result ≡ key_at place }
 {

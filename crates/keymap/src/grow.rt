@@ -29,7 +29,8 @@ fn add_child<V: Copy>(nodes: &mut [Node<V>], used: usize, at: usize, b: u8, p: P
     }
 }
 
-// Adds a node for each byte of `key` past the first `start`, whose way ends at `from`; answers the last node.
+// Adds a node for each byte of `key` past the first `start`, whose way ends at `from`; answers the last node. `count` is the next
+// free node, and no index of the key.
 pub(crate) fn grow<V: Copy>(
     nodes: &mut [Node<V>],
     used: usize,

@@ -26,7 +26,8 @@ impl<'a, V: Copy> Tree<'a, V> {
         self.node(t.at).child != 0
     }
 
-    // What the stored keys say of `key`; `maybe_more` says that more input may come.
+    // What the stored keys say of `key`; `maybe_more` says that more input may come. That there is a root is asked here, since an
+    // empty tree is sound too.
     pub(crate) fn lookup(&self, key: &[u8], maybe_more: bool) -> Found<V>
         requires { 0 < self.now.used }
         ensures { (s : Stored V) → HeldIn self.now.nodes.now self.now.used s → result ≡ found s key.now maybe_more }

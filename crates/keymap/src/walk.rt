@@ -65,7 +65,8 @@ impl<'a, V: Copy> Tree<'a, V> {
         }
     }
 
-    // The way of `key` from the root, as far as there are nodes for its bytes.
+    // The way of `key` from the root, as far as there are nodes for its bytes; `depth` counts the nodes, and is answered. That
+    // there is a root is asked here, since an empty tree is sound too.
     pub(crate) fn follow(&self, key: &[u8]) -> Trace<V>
         requires { 0 < self.now.used }
         ensures deepest { (up : ℕ → ℕ) → Well up self.now.nodes.now self.now.used → Deepest up self.now.nodes.now self.now.used key.now result.at result.depth }

@@ -71,7 +71,8 @@ fn push_parameter(out: &mut ArrayVec<u8, LONGEST>, n: Parameter)
     }
 }
 
-// The bytes so far, a parameter or none for 0, and the final byte.
+// The bytes so far, a parameter or none for 0, and the final byte. Parameter, byte and key stay apart: one call makes a key of
+// them.
 fn finish(before: ArrayVec<u8, LONGEST>, n: Parameter, last: u8, key: KeyCode) -> TableKey
     requires { array_vec_len before ≤ 7 }
     ensures { told result ≡ form before.items last key n.number }

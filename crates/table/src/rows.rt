@@ -109,7 +109,8 @@ pub(crate) fn rxvt_key(l: Marked, form: usize) -> TableKey
     }
 }
 
-// The letter alone, then SS3 1 and the letter, then with a parameter.
+// The letter alone, then SS3 1 and the letter, then with a parameter. Apart from `cursor_key`: one function for both would take
+// four parameters for three lines.
 pub(crate) fn application_key(l: Marked, form: u8) -> TableKey
     requires { form < 10 }
     ensures { told result ≡ slice_index_or (application_row l) form blank }

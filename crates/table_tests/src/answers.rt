@@ -7,7 +7,8 @@ use table::{Rule, entry_at};
 // The nodes that the table takes.
 const NODES: usize = 5327;
 
-// Whether a press is this one. Characters and function keys are told by their kind alone, so this is not `==`.
+// Whether a press is this one, by key and modifiers apart, as the examples have them. Characters and function keys are told by
+// their kind alone, so this is not `==`.
 fn is(event: KeyEvent, key: KeyCode, mods: u16) -> bool {
     place(event.key) == place(key) && event.modifiers.0 == mods
 }

@@ -56,7 +56,7 @@ fn write_part(part: &[u8], out: &mut [u8], at: usize)
     out[at..at + part.len()].copy_from_slice(part);
 }
 
-// Writes the lossy text to the front of the output.
+// Writes the lossy text to the front of the output; `len` is the place there, and no index of the text.
 fn write_lossy(text: &[u8], out: &mut [u8])
     requires { length (lossy_of text.now) ≤ length out.old }
     ensures { out.new ≡ lossy_of text.now ++ drop (length (lossy_of text.now)) out.old }
