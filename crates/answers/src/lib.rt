@@ -55,7 +55,8 @@ fn press_answer(event: KeyEvent) -> Answer
     }
 }
 
-// The answer to a line, by the words that the maps hold.
+// The answer to a line, by the words that the maps hold. The clauses name each map, as those of `lines` do: a definition of both
+// would hide which of them a word is in.
 fn reply(script: &Script, line: &[u8]) -> Answer
     ensures { (v : Stored Verb) (k : Stored KeyCode) → Holds script.now.verbs.now v → Holds script.now.keys.now k → result.items ≡ answer_in (value_of v) (value_of k) line.now }
 {

@@ -58,7 +58,7 @@ fn newline_text(newline_mode: bool) -> &'static [u8]
     if newline_mode { b"\r\n" } else { b"\r" }
 }
 
-// Tab under a set without ALT.
+// Tab under a set without ALT, by the numbers of the sets, as the definition has them.
 fn tab_text(mods: Modifiers) -> &'static [u8]
     ensures bytes { result.now ≡ tab_under mods.0 }
     ensures len { length result.now ≤ 6 }

@@ -25,6 +25,7 @@ fn is_plain_under_ctrl(c: u32) -> bool
     matches!(c, 0x61..=0x67 | 0x6b..=0x6c | 0x6e..=0x7a)
 }
 
+// By the numbers of the sets, as the definition has them.
 fn is_plain_char(c: u32, mods: u16) -> bool
     ensures { result ≡ plain_char c mods }
 {

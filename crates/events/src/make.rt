@@ -1,4 +1,4 @@
-// Events, made by functions and no `From`: their clauses say what an event tells. A variant may be written in their place.
+// Events, made by public calls that stay as they are; a `From` beside them would be another way to write the same variant.
 ghost use Rattle.std.specs.Prelude.{◌≡◌};
 ghost use Rattle.events.specs.Told.{key, paste, report as reported};
 ghost use Rattle.events.specs.Events.{told};

@@ -6,8 +6,8 @@ ghost use Rattle.filling.specs.Filling.{Fills};
 
 use keymap::{KeyMap, MapFault};
 
-// One key: the shortest filling. Its three clauses stand at each public filling, as promises of the call; inner ones say them at
-// once, by `Puts`.
+// One key: the shortest filling. Each public filling spells its clauses out, so that a caller uses each by its name; inner ones
+// say them at once, by `Puts`.
 pub fn put<V: Copy>(map: &mut KeyMap<V>, key: &[u8], value: V) -> Result<(), MapFault>
     ensures lender { map.new.nodes.ghost_name ≡ map.old.nodes.ghost_name }
     ensures supplied { length map.new.nodes.now ≡ length map.old.nodes.now }

@@ -15,6 +15,7 @@ pub struct Node<V> {
 
 // Keys of 0 to 64 bytes, each with a value of any type that can be copied, on the first nodes of a
 // slice that the caller supplies: one for the root and one for each different beginning of the keys.
+// The nodes and their number, and no vector: the memory is the caller's, and there is no heap.
 //
 // `lookup` goes by the longest stored key that the input begins with. It answers Exact with that
 // key's length and value; with `maybe_more` it answers Ambiguous where a longer stored key goes on

@@ -5,7 +5,7 @@ ghost use Rattle.keymap.specs.Tree.{blank, Well, Sound, Placed, ChildIs, Deepest
 use crate::node::Node;
 use crate::trace::{Best, Place, Trace};
 
-// The first `used` of some nodes: they are a tree.
+// The first `used` of some nodes: they are a tree. The slice is not cut to them: the definitions speak of all nodes and of `used`.
 #[derive(Drop)]
 pub struct Tree<'a, V> {
     pub(crate) nodes: &'a [Node<V>],
@@ -25,7 +25,8 @@ fn newer<V: Copy>(old: Option<Best<V>>, value: Option<V>, depth: usize) -> Optio
 }
 
 impl<'a, V: Copy> Tree<'a, V> {
-    // Node `i`. A read `self.nodes[i]` in a loop leaves a goal open, that the offset of the node fits 64 bits.
+    // Node `i`. That a node is in use is asked here and by each walk: the bound is the tree's, so a type of the number alone cannot
+    // say it. A read `self.nodes[i]` in a loop leaves a goal open, that the offset of the node fits 64 bits.
     pub(crate) fn node(&self, i: usize) -> Node<V>
         requires { i < self.now.used }
         ensures { result ≡ slice_index_or self.now.nodes.now i blank }

@@ -75,7 +75,8 @@ impl Entry {
     }
 }
 
-// Prints the entries of a rule, and counts them.
+// Prints the entries of a rule, and counts them. The chain stands here and below: a function that gave it would hand out a
+// closure.
 pub(crate) fn print_rule(
     rt: &HostRuntime,
     map: &KeyMap<KeyEvent>,

@@ -3,7 +3,7 @@ ghost use Rattle.std.specs.Prelude.{◌≡◌, ◌≤◌};
 ghost use Rattle.lines.specs.Numbers.{digit_in, plain, up_to, numeral, hex_number, dec_number};
 
 // The value of a digit of the base: 0 to 9, then A to F. Not `char::to_digit`, which takes lowercase letters too. `map_vectors`
-// has one for base 16 alone, and no crate in common.
+// has one for base 16 alone; the crate below both, `keymap`, reads no numbers.
 fn digit(b: u8, base: u8) -> Option<u8>
     ensures { result ≡ digit_in base b }
 {

@@ -16,7 +16,7 @@ fn answer_to(map: &mut KeyMap<u32>, request: Request, key: &[u8]) -> Answer
 }
 
 // Works through the script on an empty map over the nodes, until the script or the output ends or a record cannot be
-// read; answers how many records were worked.
+// read; answers how many records were worked: that is `count`, and no index of the output.
 pub(crate) fn work_through(nodes: &mut [Node<u32>], script: &[u8], out: &mut [u8]) -> u32 {
     let mut map = KeyMap::new(nodes);
     let mut left = script;

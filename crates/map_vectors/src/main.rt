@@ -13,6 +13,7 @@ use std::io;
 use std::io::{BufRead, BufReader};
 use step::{Step, read_step};
 
+// By functions and no `Display`: the types are those of `keymap`, and the words of the answers this program's.
 fn print_refused(rt: &HostRuntime, fault: MapFault) -> io::Result<()> {
     let number = fault.number();
     println!(rt; "refused\t{number}")

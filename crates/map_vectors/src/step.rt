@@ -16,7 +16,7 @@ pub enum Step {
 }
 
 // The value of an uppercase hexadecimal digit. Not `char::to_digit`, which takes lowercase letters too. `lines` has one for any
-// base, in a crate that this program does not stand on.
+// base; the crate below both, `keymap`, reads no numbers.
 fn digit(b: u8) -> Option<u8>
     ensures { IfSome result (λ d. d < 16) }
 {
@@ -39,7 +39,8 @@ fn read_hex(text: &[u8]) -> Option<Bytes> {
     Some(bytes)
 }
 
-// As in `vectors`: the two programs have no crate below them that reads fields.
+// As in `vectors`: the two programs have no crate below them that reads fields, and one for these four lines
+// would be no plainer.
 fn read_flag(text: &str) -> Option<bool> {
     match text {
         "0" => Some(false),

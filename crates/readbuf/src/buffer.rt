@@ -71,8 +71,8 @@ impl ReadBuffer {
     }
 
     // Holds a chunk behind the held bytes, or refuses it whole where they would be more than 4,096 together. The held bytes
-    // stay where they are if the chunk fits behind them. It answers a `bool`, whose
-    // clause compares the lengths; the layer above has the number of the refusal.
+    // stay where they are if the chunk fits behind them. It answers a `bool`, whose clause compares the lengths: with one cause
+    // of a refusal there is nothing more to tell.
     pub fn extend(&mut self, chunk: &[u8]) -> bool
         ensures value { result ≡ nat_le (length (held self.old) + length chunk.now) 4096 }
         ensures after { held self.new ≡ (if result then held self.old ++ chunk.now else held self.old) }

@@ -11,7 +11,8 @@ use arrayvec::ArrayVec;
 use keycode::{KeyCode, KeyEvent, Modifiers};
 use writer::{decimal, written};
 
-// The parameter of a sequence, or 0 for none.
+// The parameter of a sequence, or 0 for none. No `Option`: the definitions go by the number with 0, and a key's place in its row
+// gives it.
 #[derive(Clone, Copy)]
 pub(crate) struct Parameter {
     pub(crate) number: u8,

@@ -15,6 +15,7 @@ fn packed(kind: Kind, len: usize, value: u32) -> u64 {
     kind as u64 | (len.min(255) as u64) << 8 | (value as u64) << 32
 }
 
+// By a function and no `From`: the type is another crate's, and the number C's.
 pub(crate) fn of_character(said: Character) -> u64 {
     match said {
         Character::Scalar(value, len) => packed(Kind::Scalar, len, value),

@@ -37,7 +37,8 @@ fn read_encoding(text: &str) -> Option<KeyboardEncoding>
     }
 }
 
-// As in `map_vectors`: the two programs have no crate below them that reads fields.
+// As in `map_vectors`: the two programs have no crate below them that reads fields, and one for these four lines
+// would be no plainer.
 fn read_flag(text: &str) -> Option<bool>
     ensures { result ≡ flag_of text.now }
 {

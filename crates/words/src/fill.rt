@@ -29,10 +29,10 @@ fn fill_key(map: &mut KeyMap<KeyCode>, place: usize) -> Result<(), MapFault>
     }
 }
 
-// Puts the names of the keys into a map, in the order of `KeyCode`. A refused insert passes up as it came, and the names
-// before it stay. An empty map with 1,024 nodes takes all of them. The loop stays apart from those of `table`: a shared one
-// needs its body as a closure with a contract as long. It goes by places: over `&KEYS` the proof of the loop has no name for
-// the pair that a turn reads.
+// Puts the names of the keys into a map, in the order of `KeyCode`. The first clauses are those of each public filling. A
+// refused insert passes up as it came, and the names before it stay. An empty map with 1,024 nodes takes all of them. The loop
+// stays apart from those of `table`: a shared one needs its body as a closure with a contract as long. It goes by places: over
+// `&KEYS` the proof of the loop has no name for the pair that a turn reads.
 pub fn fill_keys(map: &mut KeyMap<KeyCode>) -> Result<(), MapFault>
     ensures lender { map.new.nodes.ghost_name ≡ map.old.nodes.ghost_name }
     ensures fills { Fills map.old map.new result key_words }
