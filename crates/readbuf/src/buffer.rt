@@ -1,5 +1,5 @@
 // The calls of a read buffer.
-ghost use Rattle.std.specs.Prelude.{◌≡◌, ◌+◌, ◌≤◌, [], ◌++◌, length, take, drop, if◌then◌else◌, None, ◌==◌, nat_le};
+ghost use Rattle.std.specs.Prelude.{◌≡◌, ◌+◌, ◌≤◌, ◌<◌, [], ◌++◌, length, take, drop, if◌then◌else◌, None, ◌==◌, nat_le};
 ghost use Rattle.readbuf.specs.Held.{held};
 ghost use Rattle.readbuf.specs.Marker.{first_marker, resumed, Within};
 
@@ -88,11 +88,12 @@ impl ReadBuffer {
         true
     }
 
-    // Drops the first n held bytes, or all where there are fewer. Where all are dropped, the next chunk goes to the front of
-    // the array.
+    // Drops the first n held bytes, or all where there are fewer. The rest stay where they are. Where all are dropped, the next
+    // chunk goes to the front of the array.
     pub fn advance(&mut self, n: usize)
         ensures after { held self.new ≡ drop n (held self.old) }
         ensures room { length (held self.old) ≤ n → self.new.end ≡ 0 }
+        ensures stays { n < length (held self.old) → self.new.start ≡ self.old.start + n }
     {
         if n < self.end - self.start {
             self.start += n;
