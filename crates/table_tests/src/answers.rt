@@ -1,7 +1,8 @@
-// Lookups in the built-in table, and fillings on few nodes.
+// Lookups in the built-in table, fillings on few nodes or behind other keys, and lawful tables.
 use basic::build_basic_key_map;
-use keycode::{KeyCode, KeyEvent, place};
+use keycode::{KeyCode, KeyEvent, Modifiers, place};
 use keymap::{Found, KeyMap, MapFault, Node};
+use lawful::is_lawful;
 use table::{Rule, entry_at};
 
 // The nodes that the table takes.
@@ -44,4 +45,39 @@ pub(crate) fn entry(rule: Rule, at: usize, bytes: &[u8], key: KeyCode, mods: u16
         Some(entry) => entry.bytes.as_slice() == bytes && is(entry.event, key, mods),
         None => false,
     }
+}
+
+// A press without modifiers.
+fn bare(key: KeyCode) -> KeyEvent {
+    KeyEvent {
+        key,
+        modifiers: Modifiers(0),
+    }
+}
+
+// Whether a key that was in as Home before the table is answered by this press behind it, and so many nodes are in use.
+pub(crate) fn behind(key: &[u8], press: KeyCode, used: usize) -> Result<bool, MapFault> {
+    let mut nodes = [Node::empty(); NODES + 1];
+    let mut map = KeyMap::new(&mut nodes);
+    map.insert(key, bare(KeyCode::Home))?;
+    build_basic_key_map(&mut map)?;
+    let found = map.lookup(key, false)?;
+    Ok(matches!(found, Found::Exact(_, event) if is(event, press, 0)) && map.used() == used)
+}
+
+// Whether the built-in table is lawful.
+pub(crate) fn built_in_is_lawful() -> Result<bool, MapFault> {
+    let mut nodes = [Node::empty(); NODES];
+    let mut map = KeyMap::new(&mut nodes);
+    build_basic_key_map(&mut map)?;
+    Ok(is_lawful(&map))
+}
+
+// Whether a table of these two keys is lawful, each of them plain Escape.
+pub(crate) fn escapes_are_lawful(one: &[u8], other: &[u8]) -> Result<bool, MapFault> {
+    let mut nodes = [Node::empty(); 8];
+    let mut map = KeyMap::new(&mut nodes);
+    map.insert(one, bare(KeyCode::Escape))?;
+    map.insert(other, bare(KeyCode::Escape))?;
+    Ok(is_lawful(&map))
 }

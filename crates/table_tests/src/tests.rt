@@ -1,5 +1,7 @@
 // The table of docs/TABLE.md, by examples worked out by hand.
-use crate::answers::{entry, finds, refused_on, waits};
+use crate::answers::{
+    behind, built_in_is_lawful, entry, escapes_are_lawful, finds, refused_on, waits,
+};
 use keycode::KeyCode;
 use table::{Rule, count, entry_at};
 
@@ -60,4 +62,20 @@ fn places(rt: HostRuntime) {
         )
     );
     assert!(rt; entry_at(Rule::Single, 10).is_none());
+}
+
+// A key of the caller's own stays beside the table's; one that the table has too gets the table's press.
+#[test]
+fn keys_before_the_table(rt: HostRuntime) {
+    assert!(rt; behind(b"x", KeyCode::Home, 5328) == Ok(true));
+    assert!(rt; behind(b"\x1b[D", KeyCode::LeftArrow, 5327) == Ok(true));
+}
+
+// Lone ESC may be plain Escape only where a longer key starts with it.
+#[test]
+fn lawful_tables(rt: HostRuntime) {
+    assert!(rt; built_in_is_lawful() == Ok(true));
+    assert!(rt; escapes_are_lawful(b"x", b"xy") == Ok(true));
+    assert!(rt; escapes_are_lawful(b"\x1b", b"x") == Ok(false));
+    assert!(rt; escapes_are_lawful(b"\x1b", b"\x1b[D") == Ok(true));
 }
