@@ -7,9 +7,10 @@ use crate::marker::{MARKER_LEN, find_marker};
 use crate::store::{CAPACITY, ReadBuffer};
 
 impl ReadBuffer {
-    // A buffer that holds nothing.
+    // A buffer that holds nothing; the first chunk goes to the front of the array.
     pub fn new() -> Self
-        ensures { held result ≡ [] }
+        ensures bytes { held result ≡ [] }
+        ensures room { result.end ≡ 0 }
     {
         ReadBuffer {
             bytes: [0; CAPACITY],
