@@ -1,5 +1,6 @@
 // The bytes of a character.
-ghost use Rattle.std.specs.Prelude.{◌≡◌};
+ghost use Rattle.std.specs.Prelude.{◌≡◌, ◌<◌, ◌≤◌};
+ghost use Rattle.arrayvec.specs.ArrayVec.{array_vec_len};
 ghost use Rattle.character.specs.Typed.{control_of, traditionally, by_route, other_key, keeps, shifted, unshown, typed};
 ghost use Rattle.character.specs.declared.level.Route.TheVariants.{Unicode, Numbered};
 
@@ -66,7 +67,8 @@ fn keeps_its_form(c: u32, mods: Modifiers, modes: KeyCodeEncodeModes) -> bool
 // ESC for ALT, then the control character under CTRL, else the character.
 #[tactic(auto, unfolding(crate::specs::Typed::traditionally))]
 fn traditionally(c: CodePoint, mods: Modifiers) -> Sequence
-    ensures { result.items ≡ traditionally c.number mods.0 }
+    ensures bytes { result.items ≡ traditionally c.number mods.0 }
+    ensures len { array_vec_len result ≤ 15 }
 {
     let mut out = escape_for_alt(mods);
     match control_of(c.number, mods) {
@@ -79,7 +81,8 @@ fn traditionally(c: CodePoint, mods: Modifiers) -> Sequence
 // CSI c ; n u
 #[tactic(auto, using(writer::proofs::Digits::dec_scalar))]
 fn unicode(c: CodePoint, mods: Modifiers) -> Sequence
-    ensures { result.items ≡ by_route Unicode c.number mods.0 }
+    ensures bytes { result.items ≡ by_route Unicode c.number mods.0 }
+    ensures len { array_vec_len result ≤ 15 }
 {
     let mut out = written(b"\x1b[");
     decimal(&mut out, c.number);
@@ -92,7 +95,8 @@ fn unicode(c: CodePoint, mods: Modifiers) -> Sequence
 // CSI 27 ; n ; c ~
 #[tactic(auto, using(writer::proofs::Digits::dec_scalar))]
 fn numbered(c: CodePoint, mods: Modifiers) -> Sequence
-    ensures { result.items ≡ by_route Numbered c.number mods.0 }
+    ensures bytes { result.items ≡ by_route Numbered c.number mods.0 }
+    ensures len { array_vec_len result ≤ 15 }
 {
     let mut out = written(b"\x1b[27;");
     push_parameter(&mut out, mods);
@@ -106,7 +110,8 @@ fn numbered(c: CodePoint, mods: Modifiers) -> Sequence
 // the modifiers change, and the modes do not.
 #[tactic(auto, unfolding(crate::specs::Typed::other_key))]
 pub fn csi_u_encode(c: CodePoint, mods: Modifiers, modes: KeyCodeEncodeModes) -> Sequence
-    ensures { result.items ≡ other_key c.number mods.0 modes }
+    ensures bytes { result.items ≡ other_key c.number mods.0 modes }
+    ensures len { array_vec_len result ≤ 15 }
 {
     match route(c.number, modes) {
         Route::Unicode => unicode(c, mods),
@@ -118,7 +123,8 @@ pub fn csi_u_encode(c: CodePoint, mods: Modifiers, modes: KeyCodeEncodeModes) ->
 // A character under its modifiers.
 #[tactic(auto, unfolding(crate::specs::Typed::typed))]
 pub fn encode_character(c: CodePoint, mods: Modifiers, modes: KeyCodeEncodeModes) -> Sequence
-    ensures { result.items ≡ typed c.number mods.0 modes }
+    ensures bytes { result.items ≡ typed c.number mods.0 modes }
+    ensures len { array_vec_len result ≤ 15 }
 {
     let c = normalize_shift_to_upper_case(c, mods);
     let mods = drop_shown_shift(c.number, mods);

@@ -1,11 +1,10 @@
 -- Records, the texts behind them, and one record more. Assumes nothing.
-use Rattle.std.proofs.Common.{◌≡◌, ℕ, suc, ◌+◌, ◌<◌, ◌≤◌, ◌⊎◌, inl, inr, Bool, true, false, cond, ◌&&◌, ltb, leb, List, [], ◌∷◌, ◌++◌, map, length, get_or, take, drop, Some, None, Option, sym, refl, ap, ◌∙◌, arith, length-drop, length-append}
+use Rattle.std.proofs.Common.{◌≡◌, ℕ, suc, ◌+◌, ◌<◌, ◌≤◌, Bool, true, false, cond, ◌&&◌, ltb, leb, ◌≢◌, List, [], ◌∷◌, ◌++◌, map, length, get_or, take, drop, set, Some, None, Option, sym, refl, ap, ◌∙◌, arith, length-drop, below_more}
 use Rattle.std.proofs.Math.ListN.{length-map}
-use Rattle.std.proofs.lemmas.List.{drop-take, drop_at, get_or-map, get_or_append_left, get_or_push, length-take-le, map_push, take-append-le, take-take, take_all}
+use Rattle.std.proofs.lemmas.List.{drop-take, take-take, take_at, drop_at, length-take-le, get_or-take, take_more_set, map_push, get_or-set_same, get_or-set_other, get_or-map}
 use Rattle.std.proofs.lemmas.Option.{slice_get-get_or}
-use Rattle.std.proofs.lemmas.Bool.{cases_lt, lt-ltb, le-ltb, le-leb, lt-leb}
+use Rattle.std.proofs.lemmas.Bool.{lt-ltb, le-ltb, le-leb, lt-leb}
 use Rattle.std.specs.List.{slice_get}
-use Rattle.std.specs.Prelude.{Result, Ok, Err, IsOk, OnOk}
 use Rattle.events.specs.Told.{Told, key, paste, report, text_of}
 use Rattle.events.specs.Records.{none, told_of, record_at, size_of, end_of, total}
 use Rattle.events.specs.Queues.{Holding, text_bytes, queue_offer, held_by}
@@ -37,10 +36,6 @@ module _ (text after : List ℕ) (used : ℕ) (same : take used after ≡ take u
   pub tolds_kept : (rs : List Record) → EndBy used rs → map (told_of after) rs ≡ map (told_of text) rs
   tolds_kept [] h = refl
   tolds_kept (r ∷ rs) h = let e = told_kept r (h 0 (omega arith)) in let f = tolds_kept rs (λ i l. h (suc i) (omega arith)) in cc
-
--- bytes behind the texts change none of them
-tolds_behind : (text more : List ℕ) (rs : List Record) → EndBy (length text) rs → map (told_of (text ++ more)) rs ≡ map (told_of text) rs
-tolds_behind text more rs h = tolds_kept text (text ++ more) (length text) (take-append-le (length text) text more (omega arith)) rs h
 
 module _ (text : List ℕ) where
   size_told : (r : Record) → end_of r ≤ length text → length (text_of (told_of text r)) ≡ size_of r
@@ -79,22 +74,23 @@ module _ {R T : ℕ} (q : Queue R T) where
   abbrev events : List Told
   events = (held_by q).taken
 
-  abbrev rs : List Record
-  rs = q.records.items
+  pub ends : (most : ℕ) → q.used ≤ most → EndBy most (take q.count q.records)
+  ends most h i l =
+      let e = length-take-le q.count q.records (omega arith) in
+      let lt : i < q.count = omega arith in
+      omega (arith, q.within i lt, ap end_of (get_or-take q.count q.records i none lt))
 
-  abbrev texts : List ℕ
-  texts = q.texts.items
+  pub count_is : length (held_by q).taken ≡ q.count
+  count_is = length-map (take q.count q.records) (told_of q.texts.bytes) ∙ length-take-le q.count q.records (omega arith)
 
-  pub count_is : length (held_by q).taken ≡ length rs
-  count_is = length-map rs (told_of texts)
-
-  pub event_at : (i : ℕ) → i < length rs → slice_get (held_by q).taken i ≡ Some (told_of texts (get_or rs i none))
+  pub event_at : (i : ℕ) → i < q.count → slice_get (held_by q).taken i ≡ Some (told_of q.texts.bytes (get_or q.records i none))
   event_at i l =
-      slice_get-get_or events i (told_of texts none) (omega (arith, count_is))
-      ∙ ap Some (get_or-map (told_of texts) rs i none _ (omega arith))
+      let e = length-take-le q.count q.records (omega arith) in
+      slice_get-get_or events i (told_of q.texts.bytes none) (omega (arith, count_is))
+      ∙ ap Some (get_or-map (told_of q.texts.bytes) (take q.count q.records) i none _ (omega arith) ∙ ap (told_of q.texts.bytes) (get_or-take q.count q.records i none l))
 
-  size_is : text_bytes events ≡ length texts
-  size_is = sizes_told texts rs q.within ∙ sym q.full
+  size_is : text_bytes events ≡ q.used
+  size_is = sizes_told q.texts.bytes (take q.count q.records) (ends (length q.texts.bytes) (omega arith)) ∙ sym q.full
 
   abbrev with : Told → Option Holding
   with e = Some (record { taken = events ++ (e ∷ []); records = R; bytes = T })
@@ -102,54 +98,54 @@ module _ {R T : ℕ} (q : Queue R T) where
   free : (e : Told) (a b : Bool) → ltb (length events) R ≡ a → leb (text_bytes events + length (text_of e)) T ≡ b → queue_offer (held_by q) e ≡ cond (a && b) (with e) None
   free e a b f g = ap (λ (x : Bool). cond (x && leb (text_bytes events + length (text_of e)) T) (with e) None) f ∙ ap (λ (x : Bool). cond (a && x) (with e) None) g
 
-  pub no_record : (e : Told) → R ≤ length rs → queue_offer (held_by q) e ≡ None
+  pub no_record : (e : Told) → R ≤ q.count → queue_offer (held_by q) e ≡ None
   no_record e h = free e false (leb (text_bytes events + length (text_of e)) T) (le-ltb _ _ (omega (arith, count_is))) refl
 
-  pub no_text : (e : Told) → T < length texts + length (text_of e) → queue_offer (held_by q) e ≡ None
+  pub no_text : (e : Told) → T < q.used + length (text_of e) → queue_offer (held_by q) e ≡ None
   no_text e h =
       free e (ltb (length events) R) false refl (lt-leb _ _ (omega (arith, size_is)))
       ∙ ap (λ (b : Bool). cond b (with e) None) (and_false (ltb (length events) R))
 
-  -- one event more: its record r and its text stand behind the others
-  module _ (e : Told) (r : Record) (rs' : List Record) (texts' : List ℕ) (is : r ≡ record_at (length texts) e) (one : rs' ≡ rs ++ (r ∷ [])) (more : texts' ≡ texts ++ text_of e) where
-    long : length texts' ≡ length texts + length (text_of e)
-    long = ap length more ∙ length-append texts (text_of e)
+  -- the record r of an event whose text has the n bytes behind the others
+  module _ (e : Told) (r : Record) (n : ℕ) (is : r ≡ record_at q.used e) (long : n ≡ length (text_of e)) (room : q.count < R) where
+    inside : q.count < length q.records
+    inside = omega arith
 
     -- each text ends by the last one's end
-    pub within_push : EndBy (length texts') rs'
-    within_push i h = by (cases_lt i (length rs))
-      where
-        read : end_of (get_or rs' i none) ≡ end_of (get_or (rs ++ (r ∷ [])) i none)
-        read = ap (λ (l : List Record). end_of (get_or l i none)) one
+    pub within_push : (i : ℕ) → i < q.count + 1 → end_of (get_or (set q.records q.count r) i none) ≤ q.used + n
+    within_push =
+        below_more (λ i. end_of (get_or (set q.records q.count r) i none) ≤ q.used + n) q.count
+        (λ i l. let ne : i ≢ q.count = omega arith in omega (arith, q.within i l, ap end_of (get_or-set_other q.records q.count i r none ne)))
+        (omega (arith, end_at q.used e, ap end_of is, ap end_of (get_or-set_same q.records q.count r none inside)))
 
-        by : (i < length rs) ⊎ (length rs ≤ i) → end_of (get_or rs' i none) ≤ length texts'
-        by (inl k) = omega (arith, q.within i k, long, read, ap end_of (get_or_append_left rs (r ∷ []) none i k))
-        by (inr k) =
-            let last : length rs ≡ i = omega (arith, ap length one, length-append rs (r ∷ [])) in
-            omega (arith, long, read, ap end_of (get_or_push rs r none i last), ap end_of is, end_at (length texts) e)
+    pub full_push : q.used + n ≡ total (take (q.count + 1) (set q.records q.count r))
+    full_push =
+        omega (arith, q.full, size_at q.used e, ap size_of is, total_push (take q.count q.records) r, ap total (take_more_set q.records q.count r inside))
 
-    pub full_push : length texts' ≡ total rs'
-    full_push = omega (arith, q.full, long, ap total one, total_push rs r, ap size_of is, size_at (length texts) e)
+    module _ (after : List ℕ) (written : take (q.used + n) after ≡ take q.used q.texts.bytes ++ text_of e) where
+      front : length (take q.used q.texts.bytes) ≡ q.used
+      front = length-take-le q.used q.texts.bytes (omega arith)
 
-    here : take (length (text_of e)) (drop (length texts) texts') ≡ text_of e
-    here =
-        ap (λ (l : List ℕ). take (length (text_of e)) (drop (length texts) l)) more
-        ∙ (ap (take (length (text_of e))) (drop_at texts (text_of e) (length texts) refl) ∙ take_all (length (text_of e)) (text_of e) (omega arith))
+      same : take q.used after ≡ take q.used q.texts.bytes
+      same =
+          sym (take-take q.used (q.used + n) after (omega arith))
+          ∙ (ap (take q.used) written ∙ take_at (take q.used q.texts.bytes) (text_of e) q.used front)
 
-    -- the events, and one more
-    pushed : map (told_of texts') rs' ≡ events ++ (e ∷ [])
-    pushed =
-        ap (map (told_of texts')) one
-        ∙ (map_push (told_of texts') rs r
-        ∙ (ap (λ (es : List Told). es ++ (told_of texts' r ∷ [])) (ap (λ (l : List ℕ). map (told_of l) rs) more ∙ tolds_behind texts (text_of e) rs q.within)
-        ∙ ap (λ (x : Told). events ++ (x ∷ [])) (ap (told_of texts') is ∙ told_at (length texts) e texts' here)))
+      here : take n (drop q.used after) ≡ text_of e
+      here =
+          sym (drop-take q.used n after)
+          ∙ (ap (drop q.used) written ∙ drop_at (take q.used q.texts.bytes) (text_of e) q.used front)
 
-    -- the queue takes it
-    pub takes : length rs < R → length texts + length (text_of e) ≤ T → queue_offer (held_by q) e ≡ Some (record { taken = map (told_of texts') rs'; records = R; bytes = T })
-    takes room fit =
-        free e true true (lt-ltb _ _ (omega (arith, count_is))) (le-leb _ _ (omega (arith, size_is)))
-        ∙ ap (λ (es : List Told). Some (record { taken = es; records = R; bytes = T })) (sym pushed)
+      -- the events, and one more
+      pushed : map (told_of after) (take (q.count + 1) (set q.records q.count r)) ≡ events ++ (e ∷ [])
+      pushed =
+          ap (map (told_of after)) (take_more_set q.records q.count r inside)
+          ∙ (map_push (told_of after) (take q.count q.records) r
+          ∙ (ap (λ (es : List Told). es ++ (told_of after r ∷ [])) (tolds_kept q.texts.bytes after q.used same (take q.count q.records) (ends q.used (omega arith)))
+          ∙ ap (λ (x : Told). events ++ (x ∷ [])) (ap (told_of after) is ∙ told_at q.used e after (ap (λ (k : ℕ). take k (drop q.used after)) (sym long) ∙ here))))
 
-pub when_ok : {A E P : Type 0} (r : Result A E) → IsOk r → OnOk r P → P
-when_ok (Ok x) i p = p
-when_ok (Err e) i p = absurd (cc)
+      -- the queue takes it
+      pub takes : q.used + n ≤ T → queue_offer (held_by q) e ≡ Some (record { taken = map (told_of after) (take (q.count + 1) (set q.records q.count r)); records = R; bytes = T })
+      takes fit =
+          free e true true (lt-ltb _ _ (omega (arith, count_is))) (le-leb _ _ (omega (arith, size_is)))
+          ∙ ap (λ (es : List Told). Some (record { taken = es; records = R; bytes = T })) (sym pushed)

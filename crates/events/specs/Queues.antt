@@ -1,5 +1,5 @@
 -- What a queue holds and takes. Assumes nothing.
-use Rattle.std.specs.Prelude.{ℕ, ◌+◌, cond, ◌&&◌, List, [], ◌∷◌, ◌++◌, map, length, Some, None, Option, nat_le, nat_lt}
+use Rattle.std.specs.Prelude.{ℕ, ◌+◌, cond, ◌&&◌, List, [], ◌∷◌, ◌++◌, map, length, take, Some, None, Option, nat_le, nat_lt}
 use Rattle.events.specs.Told.{Told, text_of}
 use Rattle.events.specs.Records.{told_of}
 use Rattle.events.specs.declared.queue.Queue.{Queue}
@@ -28,4 +28,4 @@ queue_offer q e =
 
 -- what a queue holds
 abbrev pub held_by : {R T : ℕ} → Queue R T → Holding
-held_by {R} {T} q = record { taken = map (told_of q.texts.items) q.records.items; records = R; bytes = T }
+held_by {R} {T} q = record { taken = map (told_of q.texts.bytes) (take q.count q.records); records = R; bytes = T }

@@ -9,6 +9,7 @@ mod recogniser;
 mod sink;
 mod store;
 mod stored;
+mod texts;
 
 pub use event::{InputEvent, Report, Seen};
 pub use make::{key_event, paste_event, report_event};

@@ -27,14 +27,17 @@ impl<const R: usize, const T: usize> Queue<R, T> {
     pub fn len(&self) -> usize
         ensures { result ≡ length (held_by self.now).taken }
     {
-        self.records.len()
+        self.count
     }
 
     // The event at a place, from 0 for the first that was taken.
     pub fn get(&self, i: usize) -> Option<InputEvent<'_>>
         ensures { option_map told result ≡ slice_get (held_by self.now).taken i }
     {
-        let record = *self.records.as_slice().get(i)?;
-        Some(event_of(record, self.texts.as_slice()))
+        if i >= self.count {
+            return None;
+        }
+        let record = self.records[i];
+        Some(event_of(record, &self.texts.bytes[..]))
     }
 }

@@ -1,5 +1,5 @@
 // Events stored.
-ghost use Rattle.std.specs.Prelude.{◌≡◌, []};
+ghost use Rattle.std.specs.Prelude.{◌≡◌, ◌+◌, ◌≤◌, [], ◌++◌, length, take};
 ghost use Rattle.events.specs.Told.{text_of};
 ghost use Rattle.events.specs.Events.{told};
 ghost use Rattle.events.specs.Records.{record_at};
@@ -9,24 +9,29 @@ use crate::event::InputEvent;
 use crate::queue::Queue;
 use crate::sink::Sink;
 use crate::stored::Record;
-use arrayvec::ArrayVec;
+use crate::texts::Texts;
+
+// What stands in a record that holds no event.
+const NONE: Record = Record::Paste(0, 0);
 
 impl<const R: usize, const T: usize> Queue<R, T> {
     pub fn new() -> Self
         ensures { held_by result ≡ empty R T }
     {
         Queue {
-            records: ArrayVec::new(),
-            texts: ArrayVec::new(),
+            records: [NONE; R],
+            count: 0,
+            texts: Texts { bytes: [0; T] },
+            used: 0,
         }
     }
 
-    // Lets all events go.
+    // Lets all events go; nothing is written over them.
     pub fn clear(&mut self)
         ensures { held_by self.new ≡ empty R T }
     {
-        self.records.clear();
-        self.texts.clear();
+        self.count = 0;
+        self.used = 0;
     }
 }
 
@@ -51,6 +56,17 @@ fn record_of(event: InputEvent<'_>, start: usize) -> Record
     }
 }
 
+impl<const T: usize> Texts<T> {
+    // Writes a text at a place.
+    fn put(&mut self, start: usize, text: &[u8])
+        requires { start + length text.now ≤ T }
+        ensures { take (start + length text.now) self.new.bytes ≡ take start self.old.bytes ++ text.now }
+    {
+        let bytes = &mut self.bytes[..];
+        bytes[start..start + text.len()].copy_from_slice(text);
+    }
+}
+
 impl<const R: usize, const T: usize> Sink for Queue<R, T> {
     ghost Held = { Holding };
 
@@ -60,13 +76,14 @@ impl<const R: usize, const T: usize> Sink for Queue<R, T> {
 
     fn take(&mut self, event: InputEvent<'_>) -> bool {
         let text = text_of(event);
-        if self.records.is_full() || text.len() > self.texts.remaining_capacity() {
+        if self.count == R || text.len() > T - self.used {
             return false;
         }
-        let start = self.texts.len();
-        // The text fits, as was tested. A try in the condition above leaves open that the queue is as it was where it is refused.
-        let _ = self.texts.try_extend_from_slice(text);
-        self.records.push(record_of(event, start));
+        let start = self.used;
+        self.texts.put(start, text);
+        self.used = start + text.len();
+        self.records[self.count] = record_of(event, start);
+        self.count += 1;
         true
     }
 }

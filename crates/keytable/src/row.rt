@@ -1,5 +1,6 @@
 // The lines of a rule's entries.
-ghost use Rattle.std.specs.Prelude.{◌≡◌, ◌+◌, ◌∷◌, ◌++◌};
+ghost use Rattle.std.specs.Prelude.{◌≡◌, ◌+◌, ◌≤◌, ◌∷◌, ◌++◌};
+ghost use Rattle.arrayvec.specs.ArrayVec.{array_vec_len};
 ghost use Rattle.writer.specs.Numbers.{dec, hex_of};
 
 use crate::totals::Totals;
@@ -37,12 +38,13 @@ impl Numbered {
     }
 }
 
-// An entry: its rule and its place there, from 0, and its key.
+// An entry: its rule and its place there, from 0, and its key, which has no more bytes than the longest of the table.
 #[derive(Drop)]
 struct Entry {
     rule: u8,
     place: u16,
     key: TableKey,
+    ghost short: { array_vec_len key.bytes ≤ 11 },
 }
 
 impl Entry {

@@ -10,17 +10,16 @@ ghost use Rattle.linewriter.specs.KeyNumbers.{number_of, Sized};
 ghost use Rattle.linewriter.specs.Lines.{number_text, line_of};
 
 use crate::number::Number;
-use arrayvec::ArrayVec;
 use events::Report;
 use keycode::{KeyCode, KeyEvent, Modifiers, name_of};
 use lines::mods_text;
-use writer::{decimal, extend, hexadecimal, written};
+use writer::{Buf, decimal, extend, hexadecimal, written};
 
 // The most bytes of the line of a press or a report.
 pub const LONGEST: usize = 40;
 
-// The line of a press or a report.
-pub type Line = ArrayVec<u8, LONGEST>;
+// The line of a press or a report, with room behind it.
+pub type Line = Buf;
 
 // The number that a key holds. That it is sized so is a promise to callers, whose definitions have no `u32`.
 pub fn number_of(key: KeyCode) -> Number
@@ -99,7 +98,8 @@ fn decimal_field(out: &mut Line, n: u16)
 // The line of a report: report, its kind and its two numbers.
 #[tactic(auto, unfolding(crate::specs::Lines::line_of))]
 pub fn report_line(report: Report) -> Line
-    ensures { result.items ≡ line_of (report_told report) }
+    ensures value { result.items ≡ line_of (report_told report) }
+    ensures len { array_vec_len result ≤ 40 }
 {
     let mut out = written(b"report");
     decimal_field(&mut out, report.kind);

@@ -5,6 +5,7 @@
 
 mod answer;
 mod interface;
+mod record;
 mod script;
 mod work;
 

@@ -2,7 +2,8 @@
 ghost use Rattle.std.specs.Prelude.{◌≡◌};
 
 use crate::answer::{ANSWER, Answer};
-use crate::script::{Record, Request, read_record};
+use crate::record::{Record, Request};
+use crate::script::read_record;
 use keymap::{KeyMap, Node};
 
 // Does what is asked with this key.

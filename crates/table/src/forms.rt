@@ -6,10 +6,9 @@ ghost use Rattle.table.specs.Table.{entry, mods_of, parameter, form};
 ghost use Rattle.table.specs.Told.{told};
 ghost use Rattle.writer.specs.Numbers.{dec};
 
-use crate::rule::{LONGEST, TableKey};
-use arrayvec::ArrayVec;
+use crate::rule::TableKey;
 use keycode::{KeyCode, KeyEvent, Modifiers};
-use writer::{decimal, written};
+use writer::{Buf, decimal, written};
 
 // The parameter of a sequence, or 0 for none. No `Option`: the definitions go by the number with 0, and a key's place in its row
 // gives it.
@@ -61,7 +60,7 @@ pub(crate) fn marked(text: &[u8], byte: u8, key: KeyCode, modifiers: Modifiers) 
 
 // Writes `;` and the parameter, or nothing for 0.
 #[tactic(auto, using(writer::proofs::Digits::dec_two))]
-fn push_parameter(out: &mut ArrayVec<u8, LONGEST>, n: Parameter)
+fn push_parameter(out: &mut Buf, n: Parameter)
     requires { array_vec_len out.old ≤ 7 }
     ensures bytes { out.new.items ≡ out.old.items ++ parameter n.number }
     ensures len { array_vec_len out.new ≤ array_vec_len out.old + 3 }
@@ -74,7 +73,7 @@ fn push_parameter(out: &mut ArrayVec<u8, LONGEST>, n: Parameter)
 
 // The bytes so far, a parameter or none for 0, and the final byte. Parameter, byte and key stay apart: one call makes a key of
 // them.
-fn finish(before: ArrayVec<u8, LONGEST>, n: Parameter, last: u8, key: KeyCode) -> TableKey
+fn finish(before: Buf, n: Parameter, last: u8, key: KeyCode) -> TableKey
     requires { array_vec_len before ≤ 7 }
     ensures { told result ≡ form before.items last key n.number }
 {

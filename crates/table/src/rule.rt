@@ -1,6 +1,6 @@
 // The nine rules of the table, and the small tables that they go by.
-use arrayvec::ArrayVec;
 use keycode::{KeyCode, KeyEvent};
+use writer::Buf;
 
 // The bytes of the longest key.
 pub const LONGEST: usize = 11;
@@ -38,6 +38,6 @@ pub struct Lettered {
 // A key of the table: its bytes, and what they mean.
 #[derive(Drop)]
 pub struct TableKey {
-    pub bytes: ArrayVec<u8, LONGEST>,
+    pub bytes: Buf,
     pub event: KeyEvent,
 }

@@ -1,7 +1,8 @@
 -- Digits of numbers and bytes, step by step. Assumes nothing.
-use Rattle.std.proofs.Common.{◌≡◌, ℕ, zero, suc, ◌+◌, ◌*◌, ◌/◌, ◌%◌, ◌^◌, ◌<◌, ◌≤◌, cond, ◌⊎◌, List, [], ◌∷◌, ◌++◌, length, get_or, drop, sym, refl, ap, ◌∙◌, inl, inr, div-lt_iff_lt-mul, pow-suc, arith, lit<, length-append}
+use Rattle.std.proofs.Common.{◌≡◌, ℕ, zero, suc, ◌+◌, ◌*◌, ◌/◌, ◌%◌, ◌^◌, ◌<◌, ◌≤◌, cond, ◌⊎◌, List, [], ◌∷◌, ◌++◌, length, get_or, drop, sym, refl, ap, ◌∙◌, inl, inr, div-lt_iff_lt-mul, pow-suc, arith, lit<, length-append, append_assoc, append-nil, reverse, take}
 use native.Mathlib.Nat.{pow-zero, div-lt_self}
-use Rattle.std.proofs.lemmas.List.{at_drop_more, at_drop_all}
+use Rattle.std.proofs.lemmas.List.{at_drop_more, at_drop_all, drop-append-le, drop_all, reverse-append, take-append-le, take_all, take_at}
+use Rattle.std.specs.List.{refill}
 use Rattle.std.proofs.lemmas.Bool.{lt-ltb, le-ltb, cases_lt, cond-true, cond-false}
 use Rattle.writer.specs.Numbers.{digits, dec, digits_in, in_base, hex_num, hex_digit, hex_of}
 
@@ -141,3 +142,31 @@ pub hex_length : (bytes : List ℕ) → length (hex_of bytes) ≡ 2 * length byt
 unfolding hex_of
 hex_length [] = refl
 hex_length (b ∷ bytes) = omega (arith, hex_length bytes)
+
+-- a digit goes from the rest of a number to those that are turned round behind it
+pub turned_more : (base : ℕ) (big : 1 < base) (whole low : List ℕ) (rest : ℕ) → base ≤ rest → whole ≡ in_base base rest ++ reverse low → whole ≡ in_base base (rest / base) ++ reverse (low ++ (hex_digit (rest % base) ∷ []))
+turned_more base big whole low rest h e =
+    let d = hex_digit (rest % base) in
+    e
+    ∙ (ap (λ (l : List ℕ). l ++ reverse low) (base_more base big rest h)
+    ∙ (append_assoc (in_base base (rest / base)) (d ∷ []) (reverse low)
+    ∙ ap (λ (l : List ℕ). in_base base (rest / base) ++ l) (sym (reverse-append low (d ∷ [])))))
+
+-- the last one
+pub turned_all : (base : ℕ) (big : 1 < base) (whole low : List ℕ) (rest : ℕ) → rest < base → whole ≡ in_base base rest ++ reverse low → reverse (low ++ (hex_digit rest ∷ [])) ≡ whole
+turned_all base big whole low rest h e =
+    reverse-append low (hex_digit rest ∷ [])
+    ∙ sym (e ∙ ap (λ (l : List ℕ). l ++ reverse low) (base_one base big rest h))
+
+-- behind the bytes that were there
+pub turned_behind : (base : ℕ) (big : 1 < base) (was out whole : List ℕ) (rest : ℕ) → rest < base → out ≡ was ++ drop (length was) out → whole ≡ in_base base rest ++ reverse (drop (length was) out) → length was ≤ length out → take (length was) (out ++ (hex_digit rest ∷ [])) ++ reverse (drop (length was) (out ++ (hex_digit rest ∷ []))) ≡ was ++ whole
+turned_behind base big was out whole rest h e f le =
+    let d = hex_digit rest ∷ [] in
+    let front = take-append-le (length was) out d le ∙ (ap (take (length was)) e ∙ take_at was (drop (length was) out) (length was) refl) in
+    let behind = ap reverse (drop-append-le (length was) out d le) ∙ turned_all base big whole (drop (length was) out) rest h f in
+    ap (λ (l : List ℕ). l ++ reverse (drop (length was) (out ++ d))) front ∙ ap (λ (l : List ℕ). was ++ l) behind
+
+-- as many elements in place of others are these
+pub refilled : (n : ℕ) (xs ws : List ℕ) → length ws ≡ length xs → n ≡ length xs → refill n xs ws ≡ ws
+refilled n xs ws h e =
+    ap (λ (l : List ℕ). take n (ws ++ l)) (drop_all (length ws) xs (omega arith)) ∙ (ap (take n) (append-nil ws) ∙ take_all n ws (omega arith))

@@ -3,4 +3,4 @@
 
 mod write;
 
-pub use write::{decimal, extend, hex, hex_digit, hexadecimal, utf8, written};
+pub use write::{Buf, ROOM, decimal, extend, hex, hex_digit, hexadecimal, utf8, written};

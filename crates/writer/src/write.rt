@@ -1,9 +1,15 @@
 // Bytes, text and numbers, written behind what a vector of any capacity holds.
-ghost use Rattle.std.specs.Prelude.{◌≡◌, ℕ, ◌+◌, ◌*◌, ◌%◌, ◌<◌, ◌≤◌, [], ◌∷◌, ◌++◌, length};
+ghost use Rattle.std.specs.Prelude.{◌≡◌, ℕ, ◌+◌, ◌*◌, ◌%◌, ◌<◌, ◌≤◌, [], ◌∷◌, ◌++◌, length, take, drop, reverse};
 ghost use Rattle.arrayvec.specs.ArrayVec.{array_vec_len};
 ghost use Rattle.writer.specs.Numbers.{dec, in_base, hex_num, hex_digit, hex_of, utf8_of};
 
 use arrayvec::ArrayVec;
+
+// The bytes of a `Buf`.
+pub const ROOM: usize = 64;
+
+// Room for the bytes of a key or of a short line, and for what a caller writes behind them.
+pub type Buf = ArrayVec<u8, ROOM>;
 
 // All bytes of a text.
 pub fn extend<const N: usize>(out: &mut ArrayVec<u8, N>, text: &[u8])
@@ -26,19 +32,32 @@ pub fn written<const N: usize>(text: &[u8]) -> ArrayVec<u8, N>
     out
 }
 
-// The digits of a number, at most ten, in a base from 2 to 16.
-fn numeral(n: u32, base: u32) -> ArrayVec<u8, 10>
+// Turns the bytes from `start` on round.
+fn turn(bytes: &mut [u8], start: usize)
+    requires { start ≤ length bytes.old }
+    ensures { bytes.new ≡ take start bytes.old ++ reverse (drop start bytes.old) }
+{
+    bytes[start..].reverse();
+}
+
+// The digits of a number in a base from 2 to 16: the last one first, then all turned round, with no vector of their own that
+// would be copied.
+#[inline(never)]
+fn numeral<const N: usize>(out: &mut ArrayVec<u8, N>, n: u32, base: u32)
     requires low { 2 ≤ base }
     requires high { base ≤ 16 }
-    requires room { length (in_base base n) ≤ 10 }
-    ensures { result.items ≡ in_base base n }
+    requires room { array_vec_len out.old + length (in_base base n) ≤ N }
+    ensures bytes { out.new.items ≡ out.old.items ++ in_base base n }
+    ensures len { array_vec_len out.new ≡ array_vec_len out.old + length (in_base base n) }
 {
-    if n < base {
-        return written(&[hex_digit(n as u8)]);
+    let start = out.len();
+    let mut rest = n;
+    while rest >= base {
+        out.push(hex_digit((rest % base) as u8));
+        rest /= base;
     }
-    let mut digits = numeral(n / base, base);
-    digits.push(hex_digit((n % base) as u8));
-    digits
+    out.push(hex_digit(rest as u8));
+    turn(out.as_mut_slice(), start);
 }
 
 // A number in decimal.
@@ -47,7 +66,7 @@ pub fn decimal<const N: usize>(out: &mut ArrayVec<u8, N>, n: u32)
     ensures bytes { out.new.items ≡ out.old.items ++ dec n }
     ensures len { array_vec_len out.new ≡ array_vec_len out.old + length (dec n) }
 {
-    extend(out, numeral(n, 10).as_slice());
+    numeral(out, n, 10);
 }
 
 // A number in hexadecimal.
@@ -56,7 +75,7 @@ pub fn hexadecimal<const N: usize>(out: &mut ArrayVec<u8, N>, n: u32)
     ensures bytes { out.new.items ≡ out.old.items ++ hex_num n }
     ensures len { array_vec_len out.new ≡ array_vec_len out.old + length (hex_num n) }
 {
-    extend(out, numeral(n, 16).as_slice());
+    numeral(out, n, 16);
 }
 
 // A code point in UTF-8. Not `char::encode_utf8`: a `char` is no surrogate, and the number of one is taken here.

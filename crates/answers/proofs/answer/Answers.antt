@@ -7,8 +7,9 @@ use Rattle.answers.proofs.answer.Goals as goal
 pub returns : goal.returns
 returns c =
     record {
-      any = c.reply.ensures;
+      any = c.reply.ensures.any;
       words = λ v k.
-          c.reply.ensures v.0 k.0 v.1.0 k.1.0
+          c.reply.ensures.any v.0 k.0 v.1.0 k.1.0
           ∙ same_words (value_of v.0) (value_of verb_words) (value_of k.0) (value_of key_words) c.args.line.now v.1.1 k.1.1;
+      len = c.reply.ensures.len;
     }
