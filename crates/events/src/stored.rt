@@ -10,10 +10,3 @@ pub enum Record {
     Key(KeyEvent),
     Report(Report),
 }
-
-// What stands where no event is held; written out, since a derived default needs a variant without fields.
-impl Default for Record {
-    fn default() -> Self {
-        Record::Paste(0, 0)
-    }
-}

@@ -71,15 +71,22 @@ fn push_parameter(out: &mut Buf, n: Parameter)
     }
 }
 
-// The bytes so far, a parameter or none for 0, and the final byte. Parameter, byte and key stay apart: one call makes a key of
-// them.
-fn finish(before: Buf, n: Parameter, last: u8, key: KeyCode) -> TableKey
-    requires { array_vec_len before ≤ 7 }
-    ensures { told result ≡ form before.items last key n.number }
+// Behind the bytes so far a parameter, or none for 0, and the final byte: by reference, since the bytes would be copied.
+fn finish(bytes: &mut Buf, n: Parameter, last: u8)
+    requires { array_vec_len bytes.old ≤ 7 }
+    ensures { bytes.new.items ≡ bytes.old.items ++ (parameter n.number ++ (last ∷ [])) }
 {
-    let mut bytes = before;
-    push_parameter(&mut bytes, n);
+    push_parameter(bytes, n);
     bytes.push(last);
+}
+
+// A text, a parameter or none for 0, and the final byte.
+pub(crate) fn parametered(text: &[u8], n: Parameter, last: u8, key: KeyCode) -> TableKey
+    requires { length text.now ≤ 7 }
+    ensures { told result ≡ form text.now last key n.number }
+{
+    let mut bytes = written(text);
+    finish(&mut bytes, n, last);
     TableKey {
         bytes,
         event: KeyEvent {
@@ -89,14 +96,6 @@ fn finish(before: Buf, n: Parameter, last: u8, key: KeyCode) -> TableKey
     }
 }
 
-// A text, a parameter or none for 0, and the final byte.
-pub(crate) fn parametered(text: &[u8], n: Parameter, last: u8, key: KeyCode) -> TableKey
-    requires { length text.now ≤ 7 }
-    ensures { told result ≡ form text.now last key n.number }
-{
-    finish(written(text), n, last, key)
-}
-
 // CSI and a number, a parameter or none for 0, and the final byte.
 #[tactic(auto, using(writer::proofs::Digits::dec_byte))]
 pub(crate) fn numbered(number: u8, n: Parameter, last: u8, key: KeyCode) -> TableKey
@@ -104,5 +103,12 @@ pub(crate) fn numbered(number: u8, n: Parameter, last: u8, key: KeyCode) -> Tabl
 {
     let mut bytes = written(b"\x1b[");
     decimal(&mut bytes, number as u32);
-    finish(bytes, n, last, key)
+    finish(&mut bytes, n, last);
+    TableKey {
+        bytes,
+        event: KeyEvent {
+            key,
+            modifiers: n.modifiers(),
+        },
+    }
 }

@@ -42,7 +42,7 @@ fn turn(bytes: &mut [u8], start: usize)
 
 // The digits of a number in a base from 2 to 16: the last one first, then all turned round, with no vector of their own that
 // would be copied.
-#[inline(never)]
+#[inline(always)]
 fn numeral<const N: usize>(out: &mut ArrayVec<u8, N>, n: u32, base: u32)
     requires low { 2 ≤ base }
     requires high { base ≤ 16 }
@@ -60,7 +60,8 @@ fn numeral<const N: usize>(out: &mut ArrayVec<u8, N>, n: u32, base: u32)
     turn(out.as_mut_slice(), start);
 }
 
-// A number in decimal.
+// A number in decimal. It is a call, so that the callers stay small; the base is a constant in it.
+#[inline(never)]
 pub fn decimal<const N: usize>(out: &mut ArrayVec<u8, N>, n: u32)
     requires { array_vec_len out.old + length (dec n) ≤ N }
     ensures bytes { out.new.items ≡ out.old.items ++ dec n }
@@ -69,7 +70,8 @@ pub fn decimal<const N: usize>(out: &mut ArrayVec<u8, N>, n: u32)
     numeral(out, n, 10);
 }
 
-// A number in hexadecimal.
+// A number in hexadecimal. A call too.
+#[inline(never)]
 pub fn hexadecimal<const N: usize>(out: &mut ArrayVec<u8, N>, n: u32)
     requires { array_vec_len out.old + length (hex_num n) ≤ N }
     ensures bytes { out.new.items ≡ out.old.items ++ hex_num n }
